@@ -50,7 +50,14 @@ splittable d x many place there = go place.0 place.1 place.2
   where
     go : (level : ℕ) → IsRow level x → d.balancers + bitonic_balancers level ≤ MOST_BALANCERS → (n : ℕ) × Splittable d x n
     go zero row r = absurd (many row)
-    go (suc n) row r = (n, record { row = row; room = let e = balancers-suc n in omega (arith, r, e); there = rw (take-append-drop (2 ^ n) x) there })
+    go (suc n) row r = (
+      n,
+      record {
+        row = row;
+        room = let e = balancers-suc n in omega (arith, r, e);
+        there = rw (take-append-drop (2 ^ n) x) there;
+      },
+    )
 
 front-loose : {d : Plan} {x : List ℕ} {n : ℕ} → Splittable d x n → AllLoose d (take (2 ^ n) x)
 front-loose {d} {x} {n} s w = let t = s.there w in omega (arith, times-append w (take (2 ^ n) x) (drop (2 ^ n) x))
@@ -114,7 +121,8 @@ merger-asked {d} {e} {f} {x} {y} {y2} {n} b =
     let fits : f.balancers + (n + 1) * 2 ^ n ≤ MOST_BALANCERS = omega (arith, r, made, made2) in
     ((n, b.first.row, b.second.row, fits), λ w. let t = b.whole.there w in let j = both.loosed w in omega arith)
 
-counted-suc : {d e f g : Plan} {x y y2 z : List ℕ} {n : ℕ} → BothHalves d e f x y y2 n → BuildsMerger f g y y2 z n → BuildsBitonic d g x z (suc n)
+counted-suc : {d e f g : Plan} {x y y2 z : List ℕ} {n : ℕ} → BothHalves d e f x y y2 n → BuildsMerger f g y y2 z n
+    → BuildsBitonic d g x z (suc n)
 unfolding bitonic
 counted-suc {d} {e} {f} {g} {x} {y} {y2} {z} {n} b m = record {
   built =
@@ -130,7 +138,8 @@ pub counted-all : {d e f g : Plan} {x y y2 : List ℕ} (n : ℕ) (z : List ℕ) 
 counted-all {d} {e} {f} {g} {x} {y} {y2} n z b gives level row =
     subst (λ l. BuildsBitonic d g x z l) (sym (same-level (length x) (suc n) level b.whole.row row)) (counted-suc b (gives n b.first.row))
 
-ordered-suc : {d e f g : Plan} {x y y2 z : List ℕ} {n : ℕ} → BothHalves d e f x y y2 n → merger_made n f y y2 ≡ (g, z) → bitonic_made (suc n) d x ≡ (g, z)
+ordered-suc : {d e f g : Plan} {x y y2 z : List ℕ} {n : ℕ} → BothHalves d e f x y y2 n → merger_made n f y y2 ≡ (g, z)
+    → bitonic_made (suc n) d x ≡ (g, z)
 unfolding bitonic_made
 ordered-suc b merged = rw (b.first_order, b.second_order) merged
 

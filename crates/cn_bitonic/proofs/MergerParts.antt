@@ -41,7 +41,8 @@ record Mergeable (d : Plan) (x x2 : List ℕ) (n : ℕ) : Type 0 where
   there : AllLoose d (x ++ x2)
 
 -- what the two inner mergers take is what goes in
-times-inner : (w n : ℕ) (x x2 : List ℕ) → IsRow (suc n) x → IsRow (suc n) x2 → times w (x ++ x2) ≡ times w ((evens x ++ odds x2) ++ (odds x ++ evens x2))
+times-inner : (w n : ℕ) (x x2 : List ℕ) → IsRow (suc n) x → IsRow (suc n) x2
+    → times w (x ++ x2) ≡ times w ((evens x ++ odds x2) ++ (odds x ++ evens x2))
 times-inner w n x x2 row row2 =
     let pairs : length x ≡ 2 ^ n * 2 = row ∙ pow-suc 2 n in
     let pairs2 : length x2 ≡ 2 ^ n * 2 = row2 ∙ pow-suc 2 n in
@@ -58,9 +59,18 @@ times-inner w n x x2 row row2 =
 mergeable : (d : Plan) (x x2 : List ℕ) → (length x ≡ 1 → ⊥) → HasRoom d x x2 → AllLoose d (x ++ x2) → (n : ℕ) × Mergeable d x x2 n
 mergeable d x x2 many room there = go room.0 room.1 room.2 room.3
   where
-    go : (level : ℕ) → IsRow level x → IsRow level x2 → d.balancers + (level + 1) * 2 ^ level ≤ MOST_BALANCERS → (n : ℕ) × Mergeable d x x2 n
+    go : (level : ℕ) → IsRow level x → IsRow level x2 → d.balancers + (level + 1) * 2 ^ level ≤ MOST_BALANCERS
+        → (n : ℕ) × Mergeable d x x2 n
     go zero row row2 r = absurd (many row)
-    go (suc n) row row2 r = (n, record { row = row; row2 = row2; room = let e = rw (pow-succ' 2 n) at r in omega (arith, e); there = there })
+    go (suc n) row row2 r = (
+      n,
+      record {
+        row = row;
+        row2 = row2;
+        room = let e = rw (pow-succ' 2 n) at r in omega (arith, e);
+        there = there;
+      },
+    )
 
 inner-loose : {d : Plan} {x x2 : List ℕ} {n : ℕ} → Mergeable d x x2 n → AllLoose d ((evens x ++ odds x2) ++ (odds x ++ evens x2))
 inner-loose {d} {x} {x2} {n} m w = let t = m.there w in omega (arith, times-inner w n x x2 m.row m.row2)
@@ -74,7 +84,8 @@ first-asked d x x2 even odd2 e o many room there =
     let row = evens-row n x m.row in
     let r = m.room in
     let fits : d.balancers + (n + 1) * 2 ^ n ≤ MOST_BALANCERS = omega (arith, r) in
-    let loose : AllLoose d (evens x ++ odds x2) = λ w. let t = inner-loose m w in omega (arith, times-append w (evens x ++ odds x2) (odds x ++ evens x2)) in
+    let loose : AllLoose d (evens x ++ odds x2) = λ w. let t = inner-loose m w in
+    omega (arith, times-append w (evens x ++ odds x2) (odds x ++ evens x2)) in
     rw (e, o) (shorter n x (evens x) m.row row, ((n, row, odds-row n x2 m.row2, fits), loose))
 
 -- and the second
@@ -89,7 +100,10 @@ second-asked d e x x2 even odd2 odd even2 z p q p2 q2 many room there first =
     let r = m.room in
     let made = built.balancers in
     let fits : e.balancers + (n + 1) * 2 ^ n ≤ MOST_BALANCERS = omega (arith, r, made) in
-    rw (p2, q2) (shorter n x (odds x) m.row row, ((n, row, evens-row n x2 m.row2, fits), Builds-loose (odds x ++ evens x2) (inner-loose m) built))
+    rw (p2, q2) (
+      shorter n x (odds x) m.row row,
+      ((n, row, evens-row n x2 m.row2, fits), Builds-loose (odds x ++ evens x2) (inner-loose m) built),
+    )
 
 -- ---- the two inner mergers
 
@@ -100,7 +114,8 @@ pub record InnerMergers (d e f : Plan) (x x2 z z2 : List ℕ) (n : ℕ) : Type 0
   first_order : merger_made n d (evens x) (odds x2) ≡ (e, z)
   second_order : merger_made n e (odds x) (evens x2) ≡ (f, z2)
 
-pub inner-mergers : (d e f : Plan) (x x2 even odd2 odd even2 z z2 : List ℕ) → even ≡ evens x → odd2 ≡ odds x2 → odd ≡ odds x → even2 ≡ evens x2
+pub inner-mergers : (d e f : Plan) (x x2 even odd2 odd even2 z z2 : List ℕ) → even ≡ evens x → odd2 ≡ odds x2 → odd ≡ odds x
+    → even2 ≡ evens x2
     → (length x ≡ 1 → ⊥) → HasRoom d x x2 → AllLoose d (x ++ x2)
     → Gives d e even odd2 z → Orders d e even odd2 z → Gives e f odd even2 z2 → Orders e f odd even2 z2
     → (n : ℕ) × InnerMergers d e f x x2 z z2 n
@@ -125,8 +140,12 @@ last-asked {d} {e} {f} {x} {x2} {z} {z2} {n} m =
     let r = m.whole.room in
     let made = m.first.built.balancers in
     let made2 = m.second.built.balancers in
-    let inner = Builds-beside (inner-loose m.whole) m.first.built m.second.built in
-    (l ∙ sym (length-outs m.second), omega (arith, l, r, made, made2), λ w. let t = inner-loose m.whole w in let j = inner.loosed w in omega arith)
+    let inner = Builds-beside (inner-loose m.whole) m.first.built m.second.built in (
+      l ∙ sym (length-outs m.second),
+      omega (arith, l, r, made, made2),
+      λ w. let t = inner-loose m.whole w in let j = inner.loosed w in
+          omega arith,
+    )
 
 -- the last layer over the two inner mergers
 merges-all : {d e f g : Plan} {x x2 z z2 y : List ℕ} {n : ℕ} → InnerMergers d e f x x2 z z2 n
@@ -137,18 +156,27 @@ merges-all : {d e f g : Plan} {x x2 z z2 y : List ℕ} {n : ℕ} → InnerMerger
 unfolding merge
 merges-all {d} {e} {f} {g} {x} {x2} {z} {z2} {y} {n} m wires last flow =
     let l = length-outs m.first in
-    let inner = Builds-like (x ++ x2) (λ w. times-inner w n x x2 m.whole.row m.whole.row2) (Builds-beside (inner-loose m.whole) m.first.built m.second.built) in
+    let inner = Builds-like (x ++ x2) (λ w. times-inner w n x x2 m.whole.row m.whole.row2)
+    (Builds-beside (inner-loose m.whole) m.first.built m.second.built) in
     record {
       built = Builds-sized (suc n + 1) ((suc n + 1) * 2 ^ suc n) (omega arith) (rw l (merger-size n)) (Builds-then inner last);
       wires =
           let same = inner.entries in
           let made = inner.balancers in
-          let start : f.entries + 2 * f.balancers ≡ d.entries + 2 * (d.balancers + suc n * 2 ^ suc n) = rw (pow-succ' 2 n) (omega (arith, same, made)) in
+          let start : f.entries + 2 * f.balancers ≡ d.entries + 2 * (d.balancers + suc n * 2 ^ suc n) =
+          rw (pow-succ' 2 n) (omega (arith, same, made)) in
           let many : 2 * length z ≡ 2 * 2 ^ suc n = rw (pow-succ' 2 n) (omega (arith, l)) in
           wires ∙ rw (start, many);
       flow = λ h k.
           let j = last.flow h k in
-          flow h k ∙ rw (m.first.flow h (m.second.built.flow h j), m.second.flow h j, map-evens h x, map-odds h x2, map-odds h x, map-evens h x2);
+          flow h k ∙ rw (
+            m.first.flow h (m.second.built.flow h j),
+            m.second.flow h j,
+            map-evens h x,
+            map-odds h x2,
+            map-odds h x,
+            map-evens h x2,
+          );
     }
 
 pub gives_all : {d e f g : Plan} {x x2 z z2 : List ℕ} (n : ℕ) (y : List ℕ) → InnerMergers d e f x x2 z z2 n

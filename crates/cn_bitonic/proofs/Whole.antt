@@ -20,8 +20,10 @@ widest level small =
     omega arith
 
 -- there is room for it, at its level and at its width
-pub place_for-all : (d : Plan) (width level : ℕ) → IsWidthOf level width → d.balancers ≡ 0 → d.balancers + bitonic_balancers level ≤ MOST_BALANCERS
+pub place_for-all : (d : Plan) (width level : ℕ) → IsWidthOf level width → d.balancers ≡ 0
+    → d.balancers + bitonic_balancers level ≤ MOST_BALANCERS
 place_for-all d width level l none = let w = widest level l.small in rw none (omega (arith, w))
 
-pub room_for-all : (d : Plan) (width level : ℕ) → IsWidthOf level width → d.balancers ≡ 0 → d.balancers + width / 2 * (level * (level + 1) / 2) ≤ MOST_BALANCERS
+pub room_for-all : (d : Plan) (width level : ℕ) → IsWidthOf level width → d.balancers ≡ 0
+    → d.balancers + width / 2 * (level * (level + 1) / 2) ≤ MOST_BALANCERS
 room_for-all d width level l none = rw l.wide (place_for-all d width level l none)

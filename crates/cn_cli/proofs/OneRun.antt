@@ -26,7 +26,8 @@ pub refused-numbers : (given : List Row) (workers hand : ℕ) (answer : Result S
     → (IsErrOf answer Workers ↔ (¬ WorkersFit workers)) → (IsErrOf answer Hand ↔ (WorkersFit workers × (¬ HandFits hand)))
     → answer ≡ Err fault → NamesNoRun given
 refused-numbers given workers hand answer Workers gives_workers gives_hand few small is settings names within =
-    let same = one_number given (codes "workers") settings.workers workers (names.workers, few-workers settings.workers within.1) gives_workers in
+    let same = one_number given (codes "workers") settings.workers workers (names.workers, few-workers settings.workers within.1)
+    gives_workers in
     few.0 is (subst WorkersFit same within.1)
 refused-numbers given workers hand answer Hand gives_workers gives_hand few small is settings names within =
     let same = one_number given (codes "hand") settings.hand hand (names.hand, small-hand settings.hand within.2) gives_hand in

@@ -15,9 +15,17 @@ use Rattle.cn_clients.specs.declared.filled.Filled.{Filled}
 use Rattle.cn_clients.specs.Slots.{FilledBy, given, names_of, written}
 
 pub filled-none : (slots : List Named) (lane : LaneValue) → FilledBy slots lane lane [] []
-filled-none slots lane = record { home = refl; lists = refl; grants = ([], sym (append-nil lane.view.grants), refl); all = refl; own = λ k d less. absurd (omega arith) }
+filled-none slots lane = record {
+  home = refl;
+  lists = refl;
+  grants = ([], sym (append-nil lane.view.grants), refl);
+  all = refl;
+  own = λ k d less. absurd (omega arith);
+}
 
-pub filled-one : (slots : List Named) (a b c : LaneValue) (clients : List ℕ) (filled : List Filled) (one : Filled) (entry : ℕ) → FilledBy slots a b clients filled → IsNamed b c one.client entry one.name → (one.name < length slots) × (one.slot.now ≡ get_or slots one.name one.slot.now)
+pub filled-one : (slots : List Named) (a b c : LaneValue) (clients : List ℕ) (filled : List Filled) (one : Filled) (entry : ℕ)
+    → FilledBy slots a b clients filled → IsNamed b c one.client entry one.name
+    → (one.name < length slots) × (one.slot.now ≡ get_or slots one.name one.slot.now)
     → FilledBy slots a c (clients ++ one.client ∷ []) (filled ++ one ∷ [])
 filled-one slots a b c clients filled one entry by is at =
     let (more, grants, same) = by.grants in
@@ -36,7 +44,8 @@ filled-one slots a b c clients filled one entry by is at =
     }
 
 -- the names of the slots are those of all grants of a lane that had none
-pub names-all : (slots : List Named) (a b : LaneValue) (clients : List ℕ) (filled : List Filled) → a.view.grants ≡ [] → FilledBy slots a b clients filled → map (λ g. g.name) b.view.grants ≡ names_of filled
+pub names-all : (slots : List Named) (a b : LaneValue) (clients : List ℕ) (filled : List Filled) → a.view.grants ≡ []
+    → FilledBy slots a b clients filled → map (λ g. g.name) b.view.grants ≡ names_of filled
 names-all slots a b clients filled none by =
     let (more, grants, same) = by.grants in
     ap (λ (gs : List Grant). map (λ (g : Grant). g.name) gs) (grants ∙ ap (λ (gs : List Grant). gs ++ more) none)
@@ -50,10 +59,15 @@ nobody-in n =
     sum-below-zero (length (empty n).lists) (λ u. length (on (empty n).lists u)) (λ u. ap (λ (es : List (ℕ × ℕ)). length es) (none u))
   where
     none : (u : ℕ) → on (empty n).lists u ≡ []
-    none u = elim (cases_lt u n) [ inl l ↦ get_or-replicate n u [] [] l | inr l ↦ get_or_past (replicate n []) u [] (omega (arith, length-replicate {A = List (ℕ × ℕ)} n [])) ]
+    none u = elim (cases_lt u n) [
+      | inl l ↦ get_or-replicate n u [] [] l
+      | inr l ↦ get_or_past (replicate n []) u [] (omega (arith, length-replicate {A = List (ℕ × ℕ)} n []))
+    ]
 
 -- the grants of two lanes that had none are of all slots
-pub all-filled : (slots : List Named) (a b c d : LaneValue) (first second : List ℕ) (one two : List Filled) (grants : List Grant) → a.view.grants ≡ [] → c.view.grants ≡ [] → FilledBy slots a b first one → FilledBy slots c d second two → grants ≡ b.view.grants ++ d.view.grants
+pub all-filled : (slots : List Named) (a b c d : LaneValue) (first second : List ℕ) (one two : List Filled) (grants : List Grant)
+    → a.view.grants ≡ [] → c.view.grants ≡ [] → FilledBy slots a b first one → FilledBy slots c d second two
+    → grants ≡ b.view.grants ++ d.view.grants
     → IsEachBelow (length grants) (map (λ g. g.name) grants) → IsEachBelow (length one + length two) (names_of one ++ names_of two)
 all-filled slots a b c d first second one two grants none none' by by' is each =
     let names : map (λ (g : Grant). g.name) grants ≡ names_of one ++ names_of two =

@@ -21,7 +21,8 @@ marked-none slots taker mark = record {
 }
 
 -- it took one name more, for which there is no slot
-pub marked-past : (slots : List Named) (a b c : TakerValue) (mark entry name : ℕ) (filled : List Filled) → MarkedBy slots a b mark filled → IsTaken b c entry name → MarkedBy slots a c mark filled
+pub marked-past : (slots : List Named) (a b c : TakerValue) (mark entry name : ℕ) (filled : List Filled) → MarkedBy slots a b mark filled
+    → IsTaken b c entry name → MarkedBy slots a c mark filled
 marked-past slots a b c mark entry name filled by is =
     let (more, grants, many) = by.taken in
     let one : List Grant = is.grant ∷ [] in
@@ -30,14 +31,21 @@ marked-past slots a b c mark entry name filled by is =
       taken = (
         more ++ one,
         is.granted.grants ∙ ap (λ (gs : List Grant). gs ++ one) grants ∙ append_assoc a.view.grants more one,
-        λ n. omega (arith, many n, ap (λ (ns : List ℕ). times n ns) (map-append (λ (g : Grant). g.name) more one), times-append n (names_granted more) (names_granted one)),
+        λ n. omega (
+          arith,
+          many n,
+          ap (λ (ns : List ℕ). times n ns) (map-append (λ (g : Grant). g.name) more one),
+          times-append n (names_granted more) (names_granted one),
+        ),
       );
       marks = by.marks;
       own = by.own;
     }
 
 -- it took one name more, and marked its slot
-pub marked-one : (slots : List Named) (a b c : TakerValue) (entry : ℕ) (filled : List Filled) (one : Filled) → MarkedBy slots a b one.client filled → IsTaken b c entry one.name → (one.name < length slots) × (one.slot.now ≡ get_or slots one.name one.slot.now)
+pub marked-one : (slots : List Named) (a b c : TakerValue) (entry : ℕ) (filled : List Filled) (one : Filled)
+    → MarkedBy slots a b one.client filled → IsTaken b c entry one.name
+    → (one.name < length slots) × (one.slot.now ≡ get_or slots one.name one.slot.now)
     → MarkedBy slots a c one.client (filled ++ one ∷ [])
 marked-one slots a b c entry filled one by is at =
     let (more, grants, many) = by.taken in
@@ -62,13 +70,15 @@ marked-one slots a b c entry filled one by is at =
     }
 
 -- a taker that was looked at since marked the same slots
-pub marked-still : (slots : List Named) (a b c : TakerValue) (mark : ℕ) (filled : List Filled) → MarkedBy slots a b mark filled → c.home ≡ b.home → c.view.grants ≡ b.view.grants → MarkedBy slots a c mark filled
+pub marked-still : (slots : List Named) (a b c : TakerValue) (mark : ℕ) (filled : List Filled) → MarkedBy slots a b mark filled
+    → c.home ≡ b.home → c.view.grants ≡ b.view.grants → MarkedBy slots a c mark filled
 marked-still slots a b c mark filled by home grants =
     let (more, was, many) = by.taken in
     record { home = home ∙ by.home; taken = (more, grants ∙ was, many); marks = by.marks; own = by.own }
 
 -- the names of marked slots are among those of its grants
-pub marked-among : (slots : List Named) (a b : TakerValue) (mark : ℕ) (filled : List Filled) → MarkedBy slots a b mark filled → (name : ℕ) → times name (names_of filled) ≤ times name (names_granted b.view.grants)
+pub marked-among : (slots : List Named) (a b : TakerValue) (mark : ℕ) (filled : List Filled) → MarkedBy slots a b mark filled → (name : ℕ)
+    → times name (names_of filled) ≤ times name (names_granted b.view.grants)
 marked-among slots a b mark filled by name =
     let (more, grants, many) = by.taken in
     omega (

@@ -7,7 +7,8 @@ more a zero = ap (λ (k : ℕ). k ∷ []) (plus-none a)
   where
     plus-none : (k : ℕ) → k ≡ k + 0
     plus-none k = omega arith
-more a (suc n) = ap (range_with_len a) (shift n) ∙ ap (λ (ks : List ℕ). a ∷ ks) (more (a + 1) n ∙ ap (λ (k : ℕ). range_with_len (a + 1) n ++ k ∷ []) (moved a n))
+more a (suc n) = ap (range_with_len a) (shift n)
+    ∙ ap (λ (ks : List ℕ). a ∷ ks) (more (a + 1) n ∙ ap (λ (k : ℕ). range_with_len (a + 1) n ++ k ∷ []) (moved a n))
   where
     shift : (m : ℕ) → suc m + 1 ≡ suc (m + 1)
     shift m = omega arith

@@ -24,7 +24,8 @@ no-more true true false n = omega arith
 no-more true false z n = omega arith
 no-more false q z n = omega arith
 
-not-both : (c d : ℕ) → c ≢ d → (p q : Bool) (n : ℕ) → when (p && q) (when (0 == c) n + 0) + when (p && q) (when (0 == d) n + 0) ≤ when p (n + 0)
+not-both : (c d : ℕ) → c ≢ d → (p q : Bool) (n : ℕ)
+    → when (p && q) (when (0 == c) n + 0) + when (p && q) (when (0 == d) n + 0) ≤ when p (n + 0)
 not-both c d differ p q n = elim (cases_lt 0 c) [
   | inl l ↦ rw (ne_eqb 0 c (λ e. omega arith)) (omega (arith, no-more p q (0 == d) n, no-more p q false 0, nothing p q))
   | inr l ↦ rw (ne_eqb 0 d (λ e. differ (omega arith))) (omega (arith, no-more p q (0 == c) n, nothing p q))
@@ -63,9 +64,11 @@ module _ (s : State) (h : List Event) (earlier : List (List Event)) (is : IsCore
       rw (lt-ltb i w there) (omega arith)
 
   none-on : (end : End) → sum_at s.network.table end old.on ≡ sum_at s.network.table end new.on
-  none-on end = total-where-agree (is_end end) s.network.table.ends (Balancer 0) old.on new.on (λ u within at. omega (arith, on-inside u s.clients))
+  none-on end = total-where-agree (is_end end) s.network.table.ends (Balancer 0) old.on new.on
+      (λ u within at. omega (arith, on-inside u s.clients))
 
-  balanced : (end : End) → Stands s.network.table end → past (after_carry s) end + sum_at s.network.table end new.on ≡ sum_at s.network.table end (put s.network.table new)
+  balanced : (end : End) → Stands s.network.table end
+      → past (after_carry s) end + sum_at s.network.table end new.on ≡ sum_at s.network.table end (put s.network.table new)
   balanced (Balancer b) there = let was = sound.balanced (Balancer b) there in omega (arith, was, none-on (Balancer b))
   balanced (Exit i) there = let was = sound.balanced (Exit i) there in omega (arith, was, none-on (Exit i))
 
@@ -91,5 +94,6 @@ IsCore-after_carry s is quiet room =
     }
 
 -- each exit has let out its share of the base
-pub visits-after-carry : (s : State) → IsCore s → inside_in s ≡ 0 → (i : ℕ) → i < s.network.table.width → slice_index s.visits i ≡ share (s.base + length s.clients) s.network.table.width i
+pub visits-after-carry : (s : State) → IsCore s → inside_in s ≡ 0 → (i : ℕ) → i < s.network.table.width
+    → slice_index s.visits i ≡ share (s.base + length s.clients) s.network.table.width i
 visits-after-carry s is quiet i within = (tight-state s is quiet).counts i within ∙ ap (λ m. share m s.network.table.width i) is.state.all

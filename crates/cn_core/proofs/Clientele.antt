@@ -18,21 +18,35 @@ use Rattle.cn_core.specs.InsideClients.{IsPlaced, StandsFor, position_by}
 abbrev pub placed : Lists → List (ℕ × Standing) → List (ℕ × Position)
 placed y names = map (λ e. (e.0, position_by y e.1)) names
 
-pub position-found : (y : Lists) (names : List (ℕ × Standing)) (client : ℕ) → position_in (placed y names) client ≡ option_map (position_by y) (standing_of_client names client)
+pub position-found : (y : Lists) (names : List (ℕ × Standing)) (client : ℕ)
+    → position_in (placed y names) client ≡ option_map (position_by y) (standing_of_client names client)
 position-found y [] client = refl
 position-found y (e ∷ names) client = by (nat_eq client e.0) (position-found y names client)
   where
     by : (b : Bool) → position_in (placed y names) client ≡ option_map (position_by y) (standing_of_client names client)
-        → cond b (Some (position_by y e.1)) (position_in (placed y names) client) ≡ option_map (position_by y) (cond b (Some e.1) (standing_of_client names client))
+        → cond b (Some (position_by y e.1)) (position_in (placed y names) client)
+        ≡ option_map (position_by y) (cond b (Some e.1) (standing_of_client names client))
     by true rest = refl
     by false rest = rest
 
-pub inside-found : (y : Lists) (names : List (ℕ × Standing)) → count_by is_inside (values_of (placed y names)) ≡ count_by is_walking (values_of names)
+pub inside-found : (y : Lists) (names : List (ℕ × Standing))
+    → count_by is_inside (values_of (placed y names)) ≡ count_by is_walking (values_of names)
 inside-found y [] = refl
 inside-found y ((client, Walking token) ∷ names) =
-    omega (arith, inside-found y names, sum_by-cons (λ p. cond (is_inside p) 1 0) (position_by y (Walking token)) (values_of (placed y names)), sum_by-cons (λ s. cond (is_walking s) 1 0) (Walking token) (values_of names))
+    omega (
+      arith,
+      inside-found y names,
+      sum_by-cons (λ p. cond (is_inside p) 1 0) (position_by y (Walking token))
+          (values_of (placed y names)),
+      sum_by-cons (λ s. cond (is_walking s) 1 0) (Walking token) (values_of names),
+    )
 inside-found y ((client, Named name) ∷ names) =
-    omega (arith, inside-found y names, sum_by-cons (λ p. cond (is_inside p) 1 0) (position_by y (Named name)) (values_of (placed y names)), sum_by-cons (λ s. cond (is_walking s) 1 0) (Named name) (values_of names))
+    omega (
+      arith,
+      inside-found y names,
+      sum_by-cons (λ p. cond (is_inside p) 1 0) (position_by y (Named name)) (values_of (placed y names)),
+      sum_by-cons (λ s. cond (is_walking s) 1 0) (Named name) (values_of names),
+    )
 
 -- ---- what a yard that has changed says of a client
 
@@ -40,14 +54,16 @@ inside-found y ((client, Named name) ∷ names) =
 abbrev StaysFor : Lists → Lists → ℕ × Standing → Type 0
 StaysFor y z e = (position_by z e.1 ≡ position_by y e.1) × StandsFor z e.0 e.1
 
-stays : (y z : Lists) (client token : ℕ) (s : Standing) → ((other : ℕ) → other ≢ token → standing z other ≡ standing y other) → (s ≡ Walking token → ⊥) → StandsFor y client s → StaysFor y z (client, s)
+stays : (y z : Lists) (client token : ℕ) (s : Standing) → ((other : ℕ) → other ≢ token → standing z other ≡ standing y other)
+    → (s ≡ Walking token → ⊥) → StandsFor y client s → StaysFor y z (client, s)
 stays y z client token (Walking other) same differ (wire, stands) =
     let e = same other (λ t. differ (ap Walking t)) in
     (rw e refl, (wire, e ∙ stands))
 stays y z client token (Named name) same differ stands = (refl, tt)
 
 -- the token of one client is not another's
-distinct-by : (y : Lists) (client other token wire : ℕ) (s : Standing) → standing y token ≡ Some (wire, client) → StandsFor y other s → client ≢ other → s ≡ Walking token → ⊥
+distinct-by : (y : Lists) (client other token wire : ℕ) (s : Standing) → standing y token ≡ Some (wire, client) → StandsFor y other s
+    → client ≢ other → s ≡ Walking token → ⊥
 distinct-by y client other token wire (Walking t) stands (w, its) differ e =
     let same : t ≡ token = cc in
     let both : ◌≡◌ {A = Option (ℕ × ℕ)} (Some (wire, client)) (Some (w, other)) = sym stands ∙ (rw same at its) in
@@ -70,27 +86,34 @@ push-front : (y : Lists) (e : ℕ × Standing) (names : List (ℕ × Standing)) 
 push-front y e names here rest zero d h = here
 push-front y e names here rest (suc k) d h = rest k d (omega arith)
 
-placed-same : (y z : Lists) (names : List (ℕ × Standing)) → ((e : ℕ × Standing) → StandsFor y e.0 e.1 → StaysFor y z e) → AllStand y names → placed z names ≡ placed y names
+placed-same : (y z : Lists) (names : List (ℕ × Standing)) → ((e : ℕ × Standing) → StandsFor y e.0 e.1 → StaysFor y z e) → AllStand y names
+    → placed z names ≡ placed y names
 placed-same y z [] each all = refl
 placed-same y z (e ∷ names) each all =
     let here = (each e (all 0 e (omega arith))).0 in
     let rest = placed-same y z names each (tail y e names all) in
     rw (here, rest) refl
 
-stand-same : (y z : Lists) (names : List (ℕ × Standing)) → ((e : ℕ × Standing) → StandsFor y e.0 e.1 → StaysFor y z e) → AllStand y names → AllStand z names
+stand-same : (y z : Lists) (names : List (ℕ × Standing)) → ((e : ℕ × Standing) → StandsFor y e.0 e.1 → StaysFor y z e) → AllStand y names
+    → AllStand z names
 stand-same y z names each all k d h = (each (get_or names k d) (all k d h)).1
 
 -- where a client is nowhere in the table, no entry is its
-not-its : (client : ℕ) (e : ℕ × Standing) (names : List (ℕ × Standing)) → count_by (λ x. nat_eq client x.0) (e ∷ names) ≡ 0 → (client ≢ e.0) × (count_by (λ x. nat_eq client x.0) names ≡ 0)
+not-its : (client : ℕ) (e : ℕ × Standing) (names : List (ℕ × Standing)) → count_by (λ x. nat_eq client x.0) (e ∷ names) ≡ 0
+    → (client ≢ e.0) × (count_by (λ x. nat_eq client x.0) names ≡ 0)
 not-its client e names none =
-    let sum = sum_by-cons (λ (x : ℕ × Standing). cond (nat_eq client x.0) 1 0) e names in
-    (λ same. let here : nat_eq client e.0 ≡ true = grind (arith, nat_tests) in let one : ◌≡◌ {A = ℕ} (cond (nat_eq client e.0) 1 0) 1 = rw here refl in omega arith, omega arith)
+    let sum = sum_by-cons (λ (x : ℕ × Standing). cond (nat_eq client x.0) 1 0) e names in (
+      λ same. let here : nat_eq client e.0 ≡ true = grind (arith, nat_tests) in
+          let one : ◌≡◌ {A = ℕ} (cond (nat_eq client e.0) 1 0) 1 = rw here refl in omega arith,
+      omega arith,
+    )
 
 -- a change that leaves as they were all who are not the client
 abbrev Spares : Lists → Lists → ℕ → Type 0
 Spares y z client = (e : ℕ × Standing) → StandsFor y e.0 e.1 → client ≢ e.0 → StaysFor y z e
 
-placed-others : (y z : Lists) (client : ℕ) (names : List (ℕ × Standing)) → Spares y z client → AllStand y names → count_by (λ e. nat_eq client e.0) names ≡ 0 → placed z names ≡ placed y names
+placed-others : (y z : Lists) (client : ℕ) (names : List (ℕ × Standing)) → Spares y z client → AllStand y names
+    → count_by (λ e. nat_eq client e.0) names ≡ 0 → placed z names ≡ placed y names
 placed-others y z client [] spares all none = refl
 placed-others y z client (e ∷ names) spares all none =
     let (differ, left) = not-its client e names none in
@@ -98,25 +121,30 @@ placed-others y z client (e ∷ names) spares all none =
     let rest = placed-others y z client names spares (tail y e names all) left in
     rw (here, rest) refl
 
-stand-others : (y z : Lists) (client : ℕ) (names : List (ℕ × Standing)) → Spares y z client → AllStand y names → count_by (λ e. nat_eq client e.0) names ≡ 0 → AllStand z names
+stand-others : (y z : Lists) (client : ℕ) (names : List (ℕ × Standing)) → Spares y z client → AllStand y names
+    → count_by (λ e. nat_eq client e.0) names ≡ 0 → AllStand z names
 stand-others y z client [] spares all none = λ k d h. absurd (omega arith)
 stand-others y z client (e ∷ names) spares all none =
     let (differ, left) = not-its client e names none in
     push-front z e names (spares e (all 0 e (omega arith)) differ).1 (stand-others y z client names spares (tail y e names all) left)
 
 -- one client has another standing, or its token another wire: so its position changes, and no other
-placed-one : (y z : Lists) (client token : ℕ) (s : Standing) (p : Position) (names : List (ℕ × Standing)) → Spares y z client → position_by z s ≡ p
+placed-one : (y z : Lists) (client token : ℕ) (s : Standing) (p : Position) (names : List (ℕ × Standing)) → Spares y z client
+    → position_by z s ≡ p
     → AllStand y names → count_by (λ e. nat_eq client e.0) names ≤ 1
     → placed z (with_standing names client s) ≡ with_position (placed y names) client p
 placed-one y z client token s p [] spares is all once = refl
 placed-one y z client token s p (e ∷ names) spares is all once =
-    by (nat_eq client e.0) refl (placed-one y z client token s p names spares is (tail y e names all)) (placed-others y z client names spares (tail y e names all)) (sum_by-cons (λ (x : ℕ × Standing). cond (nat_eq client x.0) 1 0) e names)
+    by (nat_eq client e.0) refl (placed-one y z client token s p names spares is (tail y e names all))
+    (placed-others y z client names spares (tail y e names all))
+    (sum_by-cons (λ (x : ℕ × Standing). cond (nat_eq client x.0) 1 0) e names)
   where
     by : (b : Bool) → nat_eq client e.0 ≡ b
         → (count_by (λ x. nat_eq client x.0) names ≤ 1 → placed z (with_standing names client s) ≡ with_position (placed y names) client p)
         → (count_by (λ x. nat_eq client x.0) names ≡ 0 → placed z names ≡ placed y names)
         → count_by (λ x. nat_eq client x.0) (e ∷ names) ≡ cond (nat_eq client e.0) 1 0 + count_by (λ x. nat_eq client x.0) names
-        → placed z (cond b ((e.0, s) ∷ names) (e ∷ with_standing names client s)) ≡ cond b ((e.0, p) ∷ placed y names) ((e.0, position_by y e.1) ∷ with_position (placed y names) client p)
+        → placed z (cond b ((e.0, s) ∷ names) (e ∷ with_standing names client s))
+        ≡ cond b ((e.0, p) ∷ placed y names) ((e.0, position_by y e.1) ∷ with_position (placed y names) client p)
     by true here rest others sum =
         let one : ◌≡◌ {A = ℕ} (cond (nat_eq client e.0) 1 0) 1 = rw here refl in
         let same = others (omega arith) in
@@ -132,7 +160,9 @@ stand-one : (y z : Lists) (client : ℕ) (s : Standing) (names : List (ℕ × St
     → AllStand z (with_standing names client s)
 stand-one y z client s [] spares is all once = λ k d h. absurd (omega arith)
 stand-one y z client s (e ∷ names) spares is all once =
-    by (nat_eq client e.0) refl (stand-one y z client s names spares is (tail y e names all)) (stand-others y z client names spares (tail y e names all)) (sum_by-cons (λ (x : ℕ × Standing). cond (nat_eq client x.0) 1 0) e names)
+    by (nat_eq client e.0) refl (stand-one y z client s names spares is (tail y e names all))
+    (stand-others y z client names spares (tail y e names all))
+    (sum_by-cons (λ (x : ℕ × Standing). cond (nat_eq client x.0) 1 0) e names)
   where
     by : (b : Bool) → nat_eq client e.0 ≡ b
         → (count_by (λ x. nat_eq client x.0) names ≤ 1 → AllStand z (with_standing names client s))
@@ -149,11 +179,13 @@ stand-one y z client s (e ∷ names) spares is all once =
         push-front z e (with_standing names client s) (spares e (all 0 e (omega arith)) differ).1 (rest (omega arith))
 
 -- a standing that a client has already
-with-same : (client : ℕ) (s : Standing) (names : List (ℕ × Standing)) → standing_of_client names client ≡ Some s → with_standing names client s ≡ names
+with-same : (client : ℕ) (s : Standing) (names : List (ℕ × Standing)) → standing_of_client names client ≡ Some s
+    → with_standing names client s ≡ names
 with-same client s [] found = refl
 with-same client s (e ∷ names) found = by (nat_eq client e.0) found (with-same client s names)
   where
-    by : (b : Bool) → cond b (Some e.1) (standing_of_client names client) ≡ Some s → (standing_of_client names client ≡ Some s → with_standing names client s ≡ names)
+    by : (b : Bool) → cond b (Some e.1) (standing_of_client names client) ≡ Some s
+        → (standing_of_client names client ≡ Some s → with_standing names client s ≡ names)
         → cond b ((e.0, s) ∷ names) (e ∷ with_standing names client s) ≡ e ∷ names
     by true found rest = let its : e.1 ≡ s = cc in rw (sym its) refl
     by false found rest = ap (λ es. e ∷ es) (rest found)
@@ -161,17 +193,21 @@ with-same client s (e ∷ names) found = by (nat_eq client e.0) found (with-same
 -- ---- the changes
 
 -- whoever is not the client of a token is spared where only that token changes
-spared : (y z : Lists) (client token wire : ℕ) → standing y token ≡ Some (wire, client) → ((other : ℕ) → other ≢ token → standing z other ≡ standing y other) → Spares y z client
-spared y z client token wire stands same e its differ = stays y z e.0 token e.1 same (distinct-by y client e.0 token wire e.1 stands its differ) its
+spared : (y z : Lists) (client token wire : ℕ) → standing y token ≡ Some (wire, client)
+    → ((other : ℕ) → other ≢ token → standing z other ≡ standing y other) → Spares y z client
+spared y z client token wire stands same e its differ =
+    stays y z e.0 token e.1 same (distinct-by y client e.0 token wire e.1 stands its differ) its
 
 -- the token of a walking client stands for it
-pub stands-for : (y : Lists) (names : List (ℕ × Standing)) (client token : ℕ) → AllStand y names → standing_of_client names client ≡ Some (Walking token)
+pub stands-for : (y : Lists) (names : List (ℕ × Standing)) (client token : ℕ) → AllStand y names
+    → standing_of_client names client ≡ Some (Walking token)
     → (wire : ℕ) × (standing y token ≡ Some (wire, client))
 stands-for y [] client token all found = absurd (cc)
 stands-for y (e ∷ names) client token all found = by (nat_eq client e.0) refl found (stands-for y names client token (tail y e names all))
   where
     by : (b : Bool) → nat_eq client e.0 ≡ b → cond b (Some e.1) (standing_of_client names client) ≡ Some (Walking token)
-        → (standing_of_client names client ≡ Some (Walking token) → (wire : ℕ) × (standing y token ≡ Some (wire, client))) → (wire : ℕ) × (standing y token ≡ Some (wire, client))
+        → (standing_of_client names client ≡ Some (Walking token) → (wire : ℕ) × (standing y token ≡ Some (wire, client)))
+        → (wire : ℕ) × (standing y token ≡ Some (wire, client))
     by true here found rest =
         let its : e.1 ≡ Walking token = cc in
         let who : client ≡ e.0 = eqb-true client e.0 here in
@@ -179,12 +215,16 @@ stands-for y (e ∷ names) client token all found = by (nat_eq client e.0) refl 
     by false here found rest = rest found
 
 -- a client comes in with a token
-pub come : (y z : Yard) (names : List (ℕ × Standing)) (client token wire : ℕ) → Admits y z token client wire → IsPlaced (record { yard = y; names = names }) → standing_of_client names client ≡ None
-    → (placed z.lists (names ++ (client, Walking token) ∷ []) ≡ placed y.lists names ++ (client, On wire) ∷ []) × IsPlaced (record { yard = z; names = names ++ (client, Walking token) ∷ [] })
+pub come : (y z : Yard) (names : List (ℕ × Standing)) (client token wire : ℕ) → Admits y z token client wire
+    → IsPlaced (record { yard = y; names = names }) → standing_of_client names client ≡ None
+    → (placed z.lists (names ++ (client, Walking token) ∷ []) ≡ placed y.lists names ++ (client, On wire) ∷ [])
+    × IsPlaced (record { yard = z; names = names ++ (client, Walking token) ∷ [] })
 come y z names client token wire a is absent =
-    let self : standing z.lists token ≡ Some (wire, client) = a.standing_now token ∙ (let yes : eqb token token ≡ true = grind (arith, nat_tests) in rw yes refl) in
+    let self : standing z.lists token ≡ Some (wire, client) =
+    a.standing_now token ∙ (let yes : eqb token token ≡ true = grind (arith, nat_tests) in rw yes refl) in
     let all = stand-same y.lists z.lists names each is.stand in (
-      map-append (λ (e : ℕ × Standing). (e.0, position_by z.lists e.1)) names ((client, Walking token) ∷ []) ∙ rw (placed-same y.lists z.lists names each is.stand, self) refl,
+      map-append (λ (e : ℕ × Standing). (e.0, position_by z.lists e.1)) names ((client, Walking token) ∷ [])
+          ∙ rw (placed-same y.lists z.lists names each is.stand, self) refl,
       record {
         stand = push-back names all (wire, self);
         once = λ q. grind (arith, nat_tests, is.once q, times-push names client (Walking token) q, times-absent names client absent);
@@ -193,25 +233,31 @@ come y z names client token wire a is absent =
     )
   where
     each : (e : ℕ × Standing) → StandsFor y.lists e.0 e.1 → StaysFor y.lists z.lists e
-    each e its = stays y.lists z.lists e.0 token e.1 (λ other n. a.standing_now other ∙ (let no : eqb other token ≡ false = grind (arith, nat_tests) in rw no refl)) (fresh e.1 its) its
+    each e its = stays y.lists z.lists e.0 token e.1
+        (λ other n. a.standing_now other ∙ (let no : eqb other token ≡ false = grind (arith, nat_tests) in rw no refl)) (fresh e.1 its) its
       where
         fresh : (s : Standing) → StandsFor y.lists e.0 s → s ≡ Walking token → ⊥
         fresh (Walking t) (w, h) q = let same : t ≡ token = cc in let found = rw same at h in let none = a.fresh in absurd (cc)
         fresh (Named name) h q = cc
 
-    push-back : (names : List (ℕ × Standing)) → AllStand z.lists names → StandsFor z.lists client (Walking token) → AllStand z.lists (names ++ (client, Walking token) ∷ [])
+    push-back : (names : List (ℕ × Standing)) → AllStand z.lists names → StandsFor z.lists client (Walking token)
+        → AllStand z.lists (names ++ (client, Walking token) ∷ [])
     push-back [] all here = push-front z.lists (client, Walking token) [] here all
-    push-back (e ∷ names) all here = push-front z.lists e (names ++ (client, Walking token) ∷ []) (all 0 e (omega arith)) (push-back names (tail z.lists e names all) here)
+    push-back (e ∷ names) all here = push-front z.lists e (names ++ (client, Walking token) ∷ []) (all 0 e (omega arith))
+        (push-back names (tail z.lists e names all) here)
 
 -- a client's token goes to another wire
-pub go : (y z : Yard) (names : List (ℕ × Standing)) (client token wire : ℕ) → ((from who : ℕ) → standing y.lists token ≡ Some (from, who) → Moves y z token who wire)
+pub go : (y z : Yard) (names : List (ℕ × Standing)) (client token wire : ℕ)
+    → ((from who : ℕ) → standing y.lists token ≡ Some (from, who) → Moves y z token who wire)
     → IsPlaced (record { yard = y; names = names }) → standing_of_client names client ≡ Some (Walking token)
     → (placed z.lists names ≡ with_position (placed y.lists names) client (On wire)) × IsPlaced (record { yard = z; names = names })
 go y z names client token wire moves is found =
     let (from, stands) = stands-for y.lists names client token is.stand found in
     let m = moves from client stands in
-    let spares = spared y.lists z.lists client token from stands (λ other n. m.standing_now other ∙ (let no : eqb other token ≡ false = grind (arith, nat_tests) in rw no refl)) in
-    let self : standing z.lists token ≡ Some (wire, client) = m.standing_now token ∙ (let yes : eqb token token ≡ true = grind (arith, nat_tests) in rw yes refl) in
+    let spares = spared y.lists z.lists client token from stands
+    (λ other n. m.standing_now other ∙ (let no : eqb other token ≡ false = grind (arith, nat_tests) in rw no refl)) in
+    let self : standing z.lists token ≡ Some (wire, client) =
+    m.standing_now token ∙ (let yes : eqb token token ≡ true = grind (arith, nat_tests) in rw yes refl) in
     let same = with-same client (Walking token) names found in
     let one = placed-one y.lists z.lists client token (Walking token) (On wire) names spares (rw self refl) is.stand (is.once client) in
     let all = stand-one y.lists z.lists client (Walking token) names spares (wire, self) is.stand (is.once client) in
@@ -220,10 +266,12 @@ go y z names client token wire moves is found =
 -- a client leaves with a name
 pub leave : (y z : Yard) (names : List (ℕ × Standing)) (client token name : ℕ) → Releases y z token
     → IsPlaced (record { yard = y; names = names }) → standing_of_client names client ≡ Some (Walking token)
-    → (placed z.lists (with_standing names client (Named name)) ≡ with_position (placed y.lists names) client (Holds name)) × IsPlaced (record { yard = z; names = with_standing names client (Named name) })
+    → (placed z.lists (with_standing names client (Named name)) ≡ with_position (placed y.lists names) client (Holds name))
+    × IsPlaced (record { yard = z; names = with_standing names client (Named name) })
 leave y z names client token name r is found =
     let (from, stands) = stands-for y.lists names client token is.stand found in
-    let spares = spared y.lists z.lists client token from stands (λ other n. r.standing_now other ∙ (let no : eqb other token ≡ false = grind (arith, nat_tests) in rw no refl)) in (
+    let spares = spared y.lists z.lists client token from stands
+    (λ other n. r.standing_now other ∙ (let no : eqb other token ≡ false = grind (arith, nat_tests) in rw no refl)) in (
       placed-one y.lists z.lists client token (Named name) (Holds name) names spares refl is.stand (is.once client),
       record {
         stand = stand-one y.lists z.lists client (Named name) names spares tt is.stand (is.once client);
@@ -233,15 +281,23 @@ leave y z names client token name r is found =
     )
 
 -- a client that came in and went at once has left no trace
-pub undo : (y z w : Yard) (names : List (ℕ × Standing)) (client token wire : ℕ) → Admits y z token client wire → Releases z w token → IsPlaced (record { yard = y; names = names })
+pub undo : (y z w : Yard) (names : List (ℕ × Standing)) (client token wire : ℕ) → Admits y z token client wire → Releases z w token
+    → IsPlaced (record { yard = y; names = names })
     → (placed w.lists names ≡ placed y.lists names) × IsPlaced (record { yard = w; names = names })
-undo y z w names client token wire a r is =
-    (placed-same y.lists w.lists names each is.stand, record { stand = stand-same y.lists w.lists names each is.stand; once = is.once; walking = omega (arith, a.tokens, r.tokens, is.walking) })
+undo y z w names client token wire a r is = (
+  placed-same y.lists w.lists names each is.stand,
+  record {
+    stand = stand-same y.lists w.lists names each is.stand;
+    once = is.once;
+    walking = omega (arith, a.tokens, r.tokens, is.walking);
+  },
+)
   where
     same : (other : ℕ) → standing w.lists other ≡ standing y.lists other
     same other = elim (cases_eq other token) [
       | inl e ↦ let yes : eqb other token ≡ true = grind (arith, nat_tests) in r.standing_now other ∙ rw (yes, e) (sym a.fresh)
-      | inr n ↦ let no : eqb other token ≡ false = grind (arith, nat_tests) in r.standing_now other ∙ rw no (a.standing_now other ∙ rw no refl)
+      | inr n ↦ let no : eqb other token ≡ false = grind (arith, nat_tests) in
+          r.standing_now other ∙ rw no (a.standing_now other ∙ rw no refl)
     ]
 
     each : (e : ℕ × Standing) → StandsFor y.lists e.0 e.1 → StaysFor y.lists w.lists e
@@ -253,14 +309,17 @@ undo y z w names client token wire a r is =
 
 -- ---- who is in the table
 
-pub absent-found : (y : Lists) (names : List (ℕ × Standing)) (client : ℕ) → position_in (placed y names) client ≡ None → standing_of_client names client ≡ None
+pub absent-found : (y : Lists) (names : List (ℕ × Standing)) (client : ℕ) → position_in (placed y names) client ≡ None
+    → standing_of_client names client ≡ None
 absent-found y names client none = by (standing_of_client names client) refl (sym (position-found y names client) ∙ none)
   where
-    by : (s : Option Standing) → standing_of_client names client ≡ s → option_map (position_by y) s ≡ None → standing_of_client names client ≡ None
+    by : (s : Option Standing) → standing_of_client names client ≡ s → option_map (position_by y) s ≡ None
+        → standing_of_client names client ≡ None
     by None e h = e
     by (Some s) e h = absurd (cc)
 
-pub live-found : (y : Yard) (names : List (ℕ × Standing)) (client token : ℕ) → IsPlaced (record { yard = y; names = names }) → standing_of_client names client ≡ Some (Walking token) → IsSome (standing y.lists token)
+pub live-found : (y : Yard) (names : List (ℕ × Standing)) (client token : ℕ) → IsPlaced (record { yard = y; names = names })
+    → standing_of_client names client ≡ Some (Walking token) → IsSome (standing y.lists token)
 live-found y names client token is found = let (wire, stands) = stands-for y.lists names client token is.stand found in rw stands refl
 
 pub nobody : (y : Yard) → tokens_in y.lists ≡ 0 → IsPlaced (record { yard = y; names = [] })

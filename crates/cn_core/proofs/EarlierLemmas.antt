@@ -24,7 +24,8 @@ pub record Reaches (network : Network) (h : List Event) (earlier : List (List Ev
 
 -- what follows from an accepted event
 entered-by : (table : Table) (h : List Event) (k : Carried) (client entry : ℕ) (beyond there full : Bool)
-    → is_accepted (if beyond then EnterRefused NoSuchEntry else if there then EnterRefused AlreadyIn else if full then EnterRefused EpochFull else Entered) ≡ true
+    → is_accepted (if beyond then EnterRefused NoSuchEntry else if there then EnterRefused AlreadyIn else if full then EnterRefused
+    EpochFull else Entered) ≡ true
     → (beyond ≡ false) × (there ≡ false) × (full ≡ false)
 entered-by table h k client entry false false false e = (refl, refl, refl)
 entered-by table h k client entry true there full e = absurd (cc)
@@ -35,21 +36,26 @@ nowhere : (p : Option Position) → is_some p ≡ false → p ≡ None
 nowhere None e = refl
 nowhere (Some p) e = absurd (cc)
 
-stepped-by : (table : Table) (h : List Event) (k : Carried) (p : Option Position) → is_accepted (step_answer table h k p) ≡ true → (wire : ℕ) × (p ≡ Some (On wire))
+stepped-by : (table : Table) (h : List Event) (k : Carried) (p : Option Position) → is_accepted (step_answer table h k p) ≡ true
+    → (wire : ℕ) × (p ≡ Some (On wire))
 stepped-by table h k None e = absurd (cc)
 stepped-by table h k (Some (Holds name)) e = absurd (cc)
 stepped-by table h k (Some (On wire)) e = (wire, refl)
 
 module _ (network : Network) (is : IsNetwork network) where
   -- one event more
-  enters : (h : List Event) (earlier : List (List Event)) (client entry : ℕ) → Reaches network h earlier → IsHistory network.table (Enter client entry ∷ h) (carried_by network.table earlier) → Reaches network (Enter client entry ∷ h) earlier
+  enters : (h : List Event) (earlier : List (List Event)) (client entry : ℕ) → Reaches network h earlier
+      → IsHistory network.table (Enter client entry ∷ h) (carried_by network.table earlier)
+      → Reaches network (Enter client entry ∷ h) earlier
   enters h earlier client entry r (accepted, before) =
       let s : State = r.state in
       let k : Carried = carried_by network.table earlier in
       let (epochs, a) = r.agrees in
-      let (within, absent, room) = entered-by network.table h k client entry (nat_le network.table.entries entry) (is_some (position_after network.table h k client)) (nat_le MOST_CLIENTS (enters_of h)) accepted in
+      let (within, absent, room) = entered-by network.table h k client entry (nat_le network.table.entries entry)
+      (is_some (position_after network.table h k client)) (nat_le MOST_CLIENTS (enters_of h)) accepted in
       let at : entry < s.network.table.entries = rw r.same (grind (arith, nat_tests, within)) in
-      let new : position_in s.clients client ≡ None = a.positions client ∙ rw r.same (nowhere (position_after network.table h k client) absent) in
+      let new : position_in s.clients client ≡ None =
+      a.positions client ∙ rw r.same (nowhere (position_after network.table h k client) absent) in
       let few : length s.clients < MOST_CLIENTS = grind (arith, nat_tests, room, a.total) in
       record {
         state = state_after_enter s client entry;
@@ -58,7 +64,8 @@ module _ (network : Network) (is : IsNetwork network) where
         agrees = (epochs, AgreesAfter-state_after_enter s h (carried_by s.network.table earlier) client entry r.is.state at new few a);
       }
 
-  steps : (h : List Event) (earlier : List (List Event)) (client : ℕ) → Reaches network h earlier → IsHistory network.table (Step client ∷ h) (carried_by network.table earlier) → Reaches network (Step client ∷ h) earlier
+  steps : (h : List Event) (earlier : List (List Event)) (client : ℕ) → Reaches network h earlier
+      → IsHistory network.table (Step client ∷ h) (carried_by network.table earlier) → Reaches network (Step client ∷ h) earlier
   steps h earlier client r (accepted, before) =
       let s : State = r.state in
       let k : Carried = carried_by network.table earlier in
@@ -73,12 +80,14 @@ module _ (network : Network) (is : IsNetwork network) where
       }
 
   -- one epoch more
-  goes : (earlier : List (List Event)) (h : List Event) → Reaches network [] earlier → IsHistory network.table h (carried_by network.table earlier) → Reaches network h earlier
+  goes : (earlier : List (List Event)) (h : List Event) → Reaches network [] earlier
+      → IsHistory network.table h (carried_by network.table earlier) → Reaches network h earlier
   goes earlier [] r accepted = r
   goes earlier (Enter client entry ∷ h) r accepted = enters h earlier client entry (goes earlier h r accepted.1) accepted
   goes earlier (Step client ∷ h) r accepted = steps h earlier client (goes earlier h r accepted.1) accepted
 
-  carries : (earlier : List (List Event)) (h : List Event) (r : Reaches network h earlier) → inside_in r.state ≡ 0 → (carried_by network.table (h ∷ earlier)).enters ≤ MOST_CARRIED → Reaches network [] (h ∷ earlier)
+  carries : (earlier : List (List Event)) (h : List Event) (r : Reaches network h earlier) → inside_in r.state ≡ 0
+      → (carried_by network.table (h ∷ earlier)).enters ≤ MOST_CARRIED → Reaches network [] (h ∷ earlier)
   carries earlier h r quiet few =
       let a = r.agrees.1 in
       let base : r.state.base ≡ (carried_by network.table earlier).enters = a.base ∙ rw r.same refl in
@@ -89,22 +98,26 @@ module _ (network : Network) (is : IsNetwork network) where
         agrees = Agrees-after_carry r.state h earlier quiet r.agrees;
       }
 
-  pub reached : (earlier : List (List Event)) → AreEpochs network.table earlier → (carried_by network.table earlier).enters ≤ MOST_CARRIED → Reaches network [] earlier
+  pub reached : (earlier : List (List Event)) → AreEpochs network.table earlier → (carried_by network.table earlier).enters ≤ MOST_CARRIED
+      → Reaches network [] earlier
   reached [] epochs few = record { state = start network; same = refl; is = IsCore-start network is; agrees = Agrees-start network }
   reached (h ∷ earlier) (accepted, quiet, epochs) few =
       let r : Reaches network h earlier = goes earlier h (reached earlier epochs (omega arith)) accepted in
-      let none : inside_in r.state ≡ 0 = inside-by_history r.state h (carried_by r.state.network.table earlier) r.agrees.1 ∙ rw r.same quiet in
+      let none : inside_in r.state ≡ 0 = inside-by_history r.state h (carried_by r.state.network.table earlier) r.agrees.1
+      ∙ rw r.same quiet in
       carries earlier h r none few
 
 -- where an epoch begins, the exits have let out their shares
-shares-at : (s : State) (earlier : List (List Event)) → IsCore s → Agrees s [] earlier → HasShares s.network.table.width (carried_by s.network.table earlier)
+shares-at : (s : State) (earlier : List (List Event)) → IsCore s → Agrees s [] earlier
+    → HasShares s.network.table.width (carried_by s.network.table earlier)
 shares-at s earlier is (epochs, a) i within =
     let nobody : inside_in s ≡ 0 = omega (arith, a.total, inside-or-named s.clients) in
     let came : s.base + length s.clients ≡ (carried_by s.network.table earlier).enters = omega (arith, a.base, a.total) in
     sym (a.counts (Exit i)) ∙ visits-after-carry s is nobody i within ∙ ap (λ m. share m s.network.table.width i) came
 
 -- epochs that were accepted let out by each exit its share of their clients
-pub shares-of : (network : Network) (earlier : List (List Event)) → IsNetwork network → AreEpochs network.table earlier → (carried_by network.table earlier).enters ≤ MOST_CARRIED → HasShares network.table.width (carried_by network.table earlier)
+pub shares-of : (network : Network) (earlier : List (List Event)) → IsNetwork network → AreEpochs network.table earlier
+    → (carried_by network.table earlier).enters ≤ MOST_CARRIED → HasShares network.table.width (carried_by network.table earlier)
 shares-of network earlier is epochs few =
     let r : Reaches network [] earlier = reached network is earlier epochs few in
     subst (λ (n : Network). HasShares n.table.width (carried_by n.table earlier)) r.same (shares-at r.state earlier r.is r.agrees)
@@ -115,6 +128,8 @@ shares-by_history s is h earlier (epochs, a) =
     shares-of s.network earlier is.state.network epochs (omega (arith, a.base, is.state.carried))
 
 -- after them no two clients hold one name
-pub one-holder-after : (network : Network) (h : List Event) (earlier : List (List Event)) → IsNetwork network → AreEpochs network.table earlier → (carried_by network.table earlier).enters ≤ MOST_CARRIED
+pub one-holder-after : (network : Network) (h : List Event) (earlier : List (List Event)) → IsNetwork network
+    → AreEpochs network.table earlier → (carried_by network.table earlier).enters ≤ MOST_CARRIED
     → HasOneHolder network.table h (carried_by network.table earlier)
-one-holder-after network h earlier is epochs few = one-holder network (carried_by network.table earlier) is (shares-of network earlier is epochs few) h
+one-holder-after network h earlier is epochs few =
+    one-holder network (carried_by network.table earlier) is (shares-of network earlier is epochs few) h

@@ -18,13 +18,25 @@ use Rattle.cn_yard.proofs.CallerLemmas.{lookup-push, lookup-set, count-push, cou
 use Rattle.cn_core.proofs.StateLemmas.{stands-at}
 
 pub Agrees-start : (network : Network) → Agrees (start network) [] []
-Agrees-start network = (tt, record { base = refl; accepted = tt; positions = λ q. refl; entered = λ e. zero_at network.table.entries e; total = refl; left = refl; counts = none })
+Agrees-start network = (
+  tt,
+  record {
+    base = refl;
+    accepted = tt;
+    positions = λ q. refl;
+    entered = λ e. zero_at network.table.entries e;
+    total = refl;
+    left = refl;
+    counts = none;
+  },
+)
   where
     none : (end : End) → past (start network) end ≡ 0
     none (Balancer b) = zero_at network.table.balancers b
     none (Exit i) = zero_at network.table.width i
 
-pub AgreesAfter-state_after_enter : (s : State) (h : List Event) (k : Carried) (client entry : ℕ) → IsState s → entry < s.network.table.entries → position_in s.clients client ≡ None → length s.clients < MOST_CLIENTS
+pub AgreesAfter-state_after_enter : (s : State) (h : List Event) (k : Carried) (client entry : ℕ) → IsState s
+    → entry < s.network.table.entries → position_in s.clients client ≡ None → length s.clients < MOST_CLIENTS
     → AgreesAfter s h k → AgreesAfter (state_after_enter s client entry) (Enter client entry ∷ h) k
 AgreesAfter-state_after_enter s h k client entry is within absent room a = record {
   base = a.base;
@@ -37,7 +49,8 @@ AgreesAfter-state_after_enter s h k client entry is within absent room a = recor
 }
 
 -- one more past an end, and no other
-pub past-state_after_step : (s : State) (client wire : ℕ) (end other : End) → IsState s → wire < length s.network.table.ends → end_of s.network.table wire ≡ end
+pub past-state_after_step : (s : State) (client wire : ℕ) (end other : End) → IsState s → wire < length s.network.table.ends
+    → end_of s.network.table wire ≡ end
     → past (state_after_step s client end) other ≡ past s other + cond (is_end other end) 1 0
 past-state_after_step s client wire (Balancer b) (Balancer a) is within ends =
     let there : b < s.network.table.balancers = stands-at s.network is.network wire (Balancer b) within ends in
@@ -60,7 +73,8 @@ pub entered-state_after_step : (s : State) (client : ℕ) (end : End) → (state
 entered-state_after_step s client (Balancer b) = refl
 entered-state_after_step s client (Exit i) = refl
 
-pub clients-state_after_step : (s : State) (client : ℕ) (end : End) → (state_after_step s client end).clients ≡ with_position s.clients client (position_past s.network.table s.base end (past s end))
+pub clients-state_after_step : (s : State) (client : ℕ) (end : End)
+    → (state_after_step s client end).clients ≡ with_position s.clients client (position_past s.network.table s.base end (past s end))
 clients-state_after_step s client (Balancer b) = refl
 clients-state_after_step s client (Exit i) = refl
 
@@ -69,20 +83,39 @@ named-past : (table : Table) (base : ℕ) (end : End) (n : ℕ) → is_named (po
 named-past table base (Balancer b) n = refl
 named-past table base (Exit i) n = refl
 
-pub AgreesAfter-state_after_step : (s : State) (h : List Event) (k : Carried) (client wire : ℕ) (end : End) → IsState s → position_in s.clients client ≡ Some (On wire) → end_of s.network.table wire ≡ end
+pub AgreesAfter-state_after_step : (s : State) (h : List Event) (k : Carried) (client wire : ℕ) (end : End) → IsState s
+    → position_in s.clients client ≡ Some (On wire) → end_of s.network.table wire ≡ end
     → AgreesAfter s h k → AgreesAfter (state_after_step s client end) (Step client ∷ h) k
 AgreesAfter-state_after_step s h k client wire end is on ends a = record {
   base = rw (base-state_after_step s client end) a.base;
-  accepted = subst (λ (n : Network). IsHistory n.table (Step client ∷ h) k) (sym (network-state_after_step s client end)) (rw (← a.positions client, on) refl, a.accepted);
-  positions = λ q. rw (clients-state_after_step s client end, network-state_after_step s client end, lookup-set s.clients client (position_past s.network.table s.base end (past s end)) (On wire) q on, a.positions q, here, a.counts end, a.base) refl;
+  accepted = subst (λ (n : Network). IsHistory n.table (Step client ∷ h) k) (sym (network-state_after_step s client end))
+      (rw (← a.positions client, on) refl, a.accepted);
+  positions = λ q. rw (
+    clients-state_after_step s client end,
+    network-state_after_step s client end,
+    lookup-set s.clients client (position_past s.network.table s.base end (past s end)) (On wire) q on,
+    a.positions q,
+    here,
+    a.counts end,
+    a.base,
+  ) refl;
   entered = λ e. rw (entered-state_after_step s client end) (a.entered e);
-  total = rw (clients-state_after_step s client end, length-set_value (nat_eq client) s.clients (position_past s.network.table s.base end (past s end))) a.total;
+  total = rw (
+    clients-state_after_step s client end,
+    length-set_value (nat_eq client) s.clients (position_past s.network.table s.base end (past s end)),
+  ) a.total;
   left = rw (clients-state_after_step s client end, network-state_after_step s client end, here)
       (let more = count-set is_named s.clients client (position_past s.network.table s.base end (past s end)) (On wire) on in
       let same = ap {B = ℕ} (λ b. cond b 1 0) (named-past s.network.table s.base end (past s end)) in
-      let kept : leaves_of (state_after_step s client end).network.table h k ≡ leaves_of s.network.table h k = ap (λ (n : Network). leaves_of n.table h k) (network-state_after_step s client end) in
+      let kept : leaves_of (state_after_step s client end).network.table h k ≡ leaves_of s.network.table h k =
+      ap (λ (n : Network). leaves_of n.table h k) (network-state_after_step s client end) in
       omega (arith, a.left));
-  counts = λ other. rw (network-state_after_step s client end, past-state_after_step s client wire end other is (is.on_wires client wire on) ends, a.counts other, here) refl;
+  counts = λ other. rw (
+    network-state_after_step s client end,
+    past-state_after_step s client wire end other is (is.on_wires client wire on) ends,
+    a.counts other,
+    here,
+  ) refl;
 }
   where
     here : end_at s.network.table (position_after s.network.table h k client) ≡ Some end
@@ -90,24 +123,34 @@ AgreesAfter-state_after_step s h k client wire end is on ends a = record {
 
 pub history-enter : (old : State) (client entry : ℕ) (reply : Reply) (new : State) → IsState old → EntersTo old client entry reply new
     → AnswersByHistory old (Enter client entry) reply new
-history-enter old client entry Entered new is (within, absent, room, e) h earlier (epochs, a) =
-    (inl (grind (arith, nat_tests, a.positions client, a.total)), rw e (epochs, AgreesAfter-state_after_enter old h (carried_by old.network.table earlier) client entry is within absent room a))
+history-enter old client entry Entered new is (within, absent, room, e) h earlier (epochs, a) = (
+  inl (grind (arith, nat_tests, a.positions client, a.total)),
+  rw e (epochs, AgreesAfter-state_after_enter old h (carried_by old.network.table earlier) client entry is within absent room a),
+)
 history-enter old client entry (EnterRefused NoSuchEntry) new is (beyond, e) h earlier a = (inl (grind (arith, nat_tests)), rw e a)
-history-enter old client entry (EnterRefused AlreadyIn) new is (within, there, e) h earlier a = (inl (grind (arith, nat_tests, a.1.positions client)), rw e a)
-history-enter old client entry (EnterRefused EpochFull) new is (within, absent, full, e) h earlier a = (inl (grind (arith, nat_tests, a.1.positions client, a.1.total)), rw e a)
-history-enter old client entry (EnterRefused Memory) new is (within, absent, room, e) h earlier a = (inr (grind (arith, nat_tests, a.1.positions client, a.1.total), refl), rw e a)
+history-enter old client entry (EnterRefused AlreadyIn) new is (within, there, e) h earlier a =
+    (inl (grind (arith, nat_tests, a.1.positions client)), rw e a)
+history-enter old client entry (EnterRefused EpochFull) new is (within, absent, full, e) h earlier a =
+    (inl (grind (arith, nat_tests, a.1.positions client, a.1.total)), rw e a)
+history-enter old client entry (EnterRefused Memory) new is (within, absent, room, e) h earlier a =
+    (inr (grind (arith, nat_tests, a.1.positions client, a.1.total), refl), rw e a)
 history-enter old client entry (Stepped moved) new is none h earlier a = absurd none
 history-enter old client entry (StepRefused fault) new is none h earlier a = absurd none
 
-pub Agrees-state_after_step : (s : State) (h : List Event) (earlier : List (List Event)) (client wire : ℕ) (end : End) → IsState s → position_in s.clients client ≡ Some (On wire) → end_of s.network.table wire ≡ end
+pub Agrees-state_after_step : (s : State) (h : List Event) (earlier : List (List Event)) (client wire : ℕ) (end : End) → IsState s
+    → position_in s.clients client ≡ Some (On wire) → end_of s.network.table wire ≡ end
     → Agrees s h earlier → Agrees (state_after_step s client end) (Step client ∷ h) earlier
-Agrees-state_after_step s h earlier client wire (Balancer b) is on ends (epochs, a) = (epochs, AgreesAfter-state_after_step s h (carried_by s.network.table earlier) client wire (Balancer b) is on ends a)
-Agrees-state_after_step s h earlier client wire (Exit i) is on ends (epochs, a) = (epochs, AgreesAfter-state_after_step s h (carried_by s.network.table earlier) client wire (Exit i) is on ends a)
+Agrees-state_after_step s h earlier client wire (Balancer b) is on ends (epochs, a) =
+    (epochs, AgreesAfter-state_after_step s h (carried_by s.network.table earlier) client wire (Balancer b) is on ends a)
+Agrees-state_after_step s h earlier client wire (Exit i) is on ends (epochs, a) =
+    (epochs, AgreesAfter-state_after_step s h (carried_by s.network.table earlier) client wire (Exit i) is on ends a)
 
 pub history-step : (old : State) (client : ℕ) (reply : Reply) (new : State) → IsState old → StepsTo old client reply new
     → AnswersByHistory old (Step client) reply new
-history-step old client (Stepped moved) new is (wire, on, m, e) h earlier a =
-    (inl (rw (← a.1.positions client, on, m, ← a.1.base, a.1.counts (end_of old.network.table wire)) refl), rw e (Agrees-state_after_step old h earlier client wire (end_of old.network.table wire) is on refl a))
+history-step old client (Stepped moved) new is (wire, on, m, e) h earlier a = (
+  inl (rw (← a.1.positions client, on, m, ← a.1.base, a.1.counts (end_of old.network.table wire)) refl),
+  rw e (Agrees-state_after_step old h earlier client wire (end_of old.network.table wire) is on refl a),
+)
 history-step old client (StepRefused Stranger) new is (none, e) h earlier a = (inl (rw (← a.1.positions client, none) refl), rw e a)
 history-step old client (StepRefused (HasName name)) new is (named, e) h earlier a = (inl (rw (← a.1.positions client, named) refl), rw e a)
 history-step old client Entered new is none h earlier a = absurd none
@@ -117,36 +160,56 @@ history-step old client (EnterRefused fault) new is none h earlier a = absurd no
 pub runs-cons : (old mid new : State) (c : Event) (cs : List Event) (r : Reply) (rs : List Reply)
     → AnswersByHistory old c r mid → mid.network ≡ old.network → RunsByHistory mid cs rs new → RunsByHistory old (c ∷ cs) (r ∷ rs) new
 runs-cons old mid new c cs r rs answered same runs h earlier a =
-    let rest = runs (history_after h c r) earlier (answered h earlier a).1 in
-    (((answered h earlier a).0, subst (λ (n : Network). MayAnswerAll n.table (history_after h c r) (carried_by n.table earlier) cs rs) same rest.0), rest.1)
+    let rest = runs (history_after h c r) earlier (answered h earlier a).1 in (
+      (
+        (answered h earlier a).0,
+        subst (λ (n : Network). MayAnswerAll n.table (history_after h c r) (carried_by n.table earlier) cs rs) same
+            rest.0,
+      ),
+      rest.1,
+    )
 
 -- the same, from the i-th event on
 pub runs-at : (old mid new : State) (cs : List Event) (i : ℕ) (d : Event) (r : Reply) (rs : List Reply) → i < length cs
-    → AnswersByHistory old (get_or cs i d) r mid → mid.network ≡ old.network → RunsByHistory mid (drop (i + 1) cs) rs new → RunsByHistory old (drop i cs) (r ∷ rs) new
+    → AnswersByHistory old (get_or cs i d) r mid → mid.network ≡ old.network → RunsByHistory mid (drop (i + 1) cs) rs new
+    → RunsByHistory old (drop i cs) (r ∷ rs) new
 runs-at old mid new cs i d r rs within answered same runs =
     let shown : drop i cs ≡ get_or cs i d ∷ drop (i + 1) cs = rw (add-one, drop-cons cs i d) refl in
     rw shown (runs-cons old mid new (get_or cs i d) (drop (i + 1) cs) r rs answered same runs)
 
 -- the same of the states that a run goes through
 pub runs_to-at : (old mid new : State) (cs : List Event) (i : ℕ) (d : Event) (r : Reply) (rs : List Reply) → i < length cs
-    → TakesTo old (get_or cs i d) r mid → IsLedgerEvent old (get_or cs i d) r mid → RunsTo mid (drop (i + 1) cs) rs new → RunsTo old (drop i cs) (r ∷ rs) new
+    → TakesTo old (get_or cs i d) r mid → IsLedgerEvent old (get_or cs i d) r mid → RunsTo mid (drop (i + 1) cs) rs new
+    → RunsTo old (drop i cs) (r ∷ rs) new
 runs_to-at old mid new cs i d r rs within takes is runs =
     let shown : drop i cs ≡ get_or cs i d ∷ drop (i + 1) cs = rw (add-one, drop-cons cs i d) refl in
     rw shown (mid, takes, is, runs)
 
 -- each client is inside or has a name
-pub inside-or-named : (clients : List (ℕ × Position)) → count_by is_inside (values_of clients) + count_by is_named (values_of clients) ≡ length clients
+pub inside-or-named : (clients : List (ℕ × Position))
+    → count_by is_inside (values_of clients) + count_by is_named (values_of clients) ≡ length clients
 inside-or-named [] = refl
 inside-or-named ((c, On wire) ∷ rest) =
-    omega (arith, inside-or-named rest, sum_by-cons (λ (p : Position). cond (is_inside p) 1 0) (On wire) (values_of rest), sum_by-cons (λ (p : Position). cond (is_named p) 1 0) (On wire) (values_of rest))
+    omega (
+      arith,
+      inside-or-named rest,
+      sum_by-cons (λ (p : Position). cond (is_inside p) 1 0) (On wire) (values_of rest),
+      sum_by-cons (λ (p : Position). cond (is_named p) 1 0) (On wire) (values_of rest),
+    )
 inside-or-named ((c, Holds name) ∷ rest) =
-    omega (arith, inside-or-named rest, sum_by-cons (λ (p : Position). cond (is_inside p) 1 0) (Holds name) (values_of rest), sum_by-cons (λ (p : Position). cond (is_named p) 1 0) (Holds name) (values_of rest))
+    omega (
+      arith,
+      inside-or-named rest,
+      sum_by-cons (λ (p : Position). cond (is_inside p) 1 0) (Holds name) (values_of rest),
+      sum_by-cons (λ (p : Position). cond (is_named p) 1 0) (Holds name) (values_of rest),
+    )
 
 pub inside-by_history : (s : State) (h : List Event) (k : Carried) → AgreesAfter s h k → inside_in s ≡ inside_of s.network.table h k
 inside-by_history s h k a = omega (arith, inside-or-named s.clients, a.total, a.left)
 
 -- an epoch that is over is one of the earlier ones
-pub Agrees-after_carry : (s : State) (h : List Event) (earlier : List (List Event)) → inside_in s ≡ 0 → Agrees s h earlier → Agrees (after_carry s) [] (h ∷ earlier)
+pub Agrees-after_carry : (s : State) (h : List Event) (earlier : List (List Event)) → inside_in s ≡ 0 → Agrees s h earlier
+    → Agrees (after_carry s) [] (h ∷ earlier)
 Agrees-after_carry s h earlier quiet (epochs, a) = (
   (a.accepted, sym (inside-by_history s h (carried_by s.network.table earlier) a) ∙ quiet, epochs),
   record {
@@ -165,8 +228,10 @@ Agrees-after_carry s h earlier quiet (epochs, a) = (
     counts (Exit i) = a.counts (Exit i)
 
 -- an event lets in one client at most
-pub came-after : (old new : State) (event : Event) (reply : Reply) → TakesTo old event reply new → new.base + length new.clients ≤ old.base + length old.clients + 1
-came-after old new (Enter client entry) Entered (within, absent, room, e) = rw e (omega (arith, length-append old.clients ((client, On entry) ∷ [])))
+pub came-after : (old new : State) (event : Event) (reply : Reply) → TakesTo old event reply new
+    → new.base + length new.clients ≤ old.base + length old.clients + 1
+came-after old new (Enter client entry) Entered (within, absent, room, e) =
+    rw e (omega (arith, length-append old.clients ((client, On entry) ∷ [])))
 came-after old new (Enter client entry) (EnterRefused NoSuchEntry) (beyond, e) = rw e (omega arith)
 came-after old new (Enter client entry) (EnterRefused AlreadyIn) (within, there, e) = rw e (omega arith)
 came-after old new (Enter client entry) (EnterRefused EpochFull) (within, absent, full, e) = rw e (omega arith)
@@ -175,7 +240,8 @@ came-after old new (Enter client entry) (Stepped moved) none = absurd none
 came-after old new (Enter client entry) (StepRefused fault) none = absurd none
 came-after old new (Step client) (Stepped moved) (wire, on, m, e) =
     let end : End = end_of old.network.table wire in
-    let same = ap length (clients-state_after_step old client end) ∙ length-set_value (nat_eq client) old.clients (position_past old.network.table old.base end (past old end)) in
+    let same = ap length (clients-state_after_step old client end)
+    ∙ length-set_value (nat_eq client) old.clients (position_past old.network.table old.base end (past old end)) in
     rw e (omega (arith, base-state_after_step old client end))
 came-after old new (Step client) (StepRefused Stranger) (none, e) = rw e (omega arith)
 came-after old new (Step client) (StepRefused (HasName name)) (named, e) = rw e (omega arith)

@@ -31,13 +31,15 @@ same-by : (a b : ℕ) → (a < b → ⊥) → (b < a → ⊥) → a ≡ b
 same-by a b less greater = grind (arith, less, greater)
 
 -- a rising list with the sums of the numbers from a on is those numbers
-rising-is : (a : ℕ) (xs : List ℕ) → ((f : ℕ → ℕ) → sum_by f xs ≡ sum_by f (range_with_len a (length xs))) → AllPairs (λ x y. x ≤ y) xs → xs ≡ range_with_len a (length xs)
+rising-is : (a : ℕ) (xs : List ℕ) → ((f : ℕ → ℕ) → sum_by f xs ≡ sum_by f (range_with_len a (length xs))) → AllPairs (λ x y. x ≤ y) xs
+    → xs ≡ range_with_len a (length xs)
 rising-is a [] same rising = refl
 rising-is a (x ∷ xs) same rising =
     let head : x ≡ a = same-by x a below above in
     let rest = rising-is (a + 1) xs (λ f.
     let first : f x ≡ f a = ap f head in
-    omega (arith, same f, sum_by-cons f x xs, sum_by-cons f a (range_with_len (a + 1) (length xs)))) (λ i j d before within. rising (suc i) (suc j) d (omega arith) (omega arith)) in
+    omega (arith, same f, sum_by-cons f x xs, sum_by-cons f a (range_with_len (a + 1) (length xs))))
+    (λ i j d before within. rising (suc i) (suc j) d (omega arith) (omega arith)) in
     ap₂ (λ y ys. y ∷ ys) head rest
   where
     least : (i : ℕ) → i < length (x ∷ xs) → x ≤ get_or (x ∷ xs) i 0
@@ -47,12 +49,27 @@ rising-is a (x ∷ xs) same rising =
     above : a < x → ⊥
     above more =
         let f = λ (y : ℕ). a + 1 - y in
-        omega (arith, same f, sum-none f (x ∷ xs) (λ i within. omega (arith, least i within)), sum_by-cons f a (range_with_len (a + 1) (length xs)))
+        omega (
+          arith,
+          same f,
+          sum-none f (x ∷ xs) (λ i within. omega (arith, least i within)),
+          sum_by-cons f a (range_with_len (a + 1) (length xs)),
+        )
 
     below : x < a → ⊥
     below less =
         let f = λ (y : ℕ). a - y in
-        omega (arith, same f, sum-none f (range_with_len a (suc (length xs))) (λ i within. omega (arith, get_or-range_with_len a (suc (length xs)) i 0 (omega (arith, length-range_with_len a (suc (length xs)))))), sum_by-cons f x xs)
+        omega (
+          arith,
+          same f,
+          sum-none f (range_with_len a (suc (length xs)))
+              (λ i within. omega (
+                arith,
+                get_or-range_with_len a (suc (length xs)) i 0
+                    (omega (arith, length-range_with_len a (suc (length xs)))),
+              )),
+          sum_by-cons f x xs,
+        )
 
 -- an order of the numbers below k that rises is 0, 1, 2 and so on
 pub rising-each_below : (k : ℕ) (xs : List ℕ) → IsPermutation (range_with_len 0 k) xs → AllPairs (λ x y. x ≤ y) xs → xs ≡ range_with_len 0 k
@@ -69,12 +86,14 @@ grants-of y ((client, Walking token) ∷ names) = grants-of y names
 grants-of y ((client, Named name) ∷ names) = ap (λ grants. (name, client) ∷ grants) (grants-of y names)
 
 -- where nobody is inside, the grants are those of all clients
-keys-granted : (clients : List (ℕ × Position)) → count_by is_inside (values_of clients) ≡ 0 → map (λ grant. grant.1) (grants_of_clients clients) ≡ keys_of clients
+keys-granted : (clients : List (ℕ × Position)) → count_by is_inside (values_of clients) ≡ 0
+    → map (λ grant. grant.1) (grants_of_clients clients) ≡ keys_of clients
 keys-granted [] none = refl
 keys-granted ((client, On wire) ∷ clients) none =
     absurd (omega (arith, sum_by-cons (λ (p : Position). cond (is_inside p) 1 0) (On wire) (values_of clients)))
 keys-granted ((client, Holds name) ∷ clients) none =
-    ap (λ ks. client ∷ ks) (keys-granted clients (omega (arith, sum_by-cons (λ (p : Position). cond (is_inside p) 1 0) (Holds name) (values_of clients))))
+    ap (λ ks. client ∷ ks) (keys-granted clients
+    (omega (arith, sum_by-cons (λ (p : Position). cond (is_inside p) 1 0) (Holds name) (values_of clients))))
 
 -- a client stands among the keys as often as in the list
 times-keys : (client : ℕ) (clients : List (ℕ × Position)) → count_by (nat_eq client) (keys_of clients) ≡ times_entered client clients
@@ -88,18 +107,21 @@ times-keys client (e ∷ clients) =
     )
 
 -- whoever is found is in the list
-found-times : (client : ℕ) (clients : List (ℕ × Position)) (p : Position) → position_in clients client ≡ Some p → 1 ≤ times_entered client clients
+found-times : (client : ℕ) (clients : List (ℕ × Position)) (p : Position) → position_in clients client ≡ Some p
+    → 1 ≤ times_entered client clients
 found-times client [] p found = cc
 found-times client (e ∷ clients) p found = by (nat_eq client e.0) refl found (found-times client clients p)
   where
-    by : (b : Bool) → nat_eq client e.0 ≡ b → cond b (Some e.1) (position_in clients client) ≡ Some p → (position_in clients client ≡ Some p → 1 ≤ times_entered client clients) → 1 ≤ times_entered client (e ∷ clients)
+    by : (b : Bool) → nat_eq client e.0 ≡ b → cond b (Some e.1) (position_in clients client) ≡ Some p
+        → (position_in clients client ≡ Some p → 1 ≤ times_entered client clients) → 1 ≤ times_entered client (e ∷ clients)
     by true here found rest =
         let one : ◌≡◌ {A = ℕ} (cond (nat_eq client e.0) 1 0) 1 = rw here refl in
         omega (arith, sum_by-cons (λ (x : ℕ × Position). cond (nat_eq client x.0) 1 0) e clients)
     by false here found rest = omega (arith, rest found, sum_by-cons (λ (x : ℕ × Position). cond (nat_eq client x.0) 1 0) e clients)
 
 -- a client that is in the list once is found behind another
-found-later : (client : ℕ) (e : ℕ × Position) (clients : List (ℕ × Position)) (p : Position) → times_entered client (e ∷ clients) ≤ 1 → (times_entered client clients ≤ 1 → position_in clients client ≡ Some p) → position_in (e ∷ clients) client ≡ Some p
+found-later : (client : ℕ) (e : ℕ × Position) (clients : List (ℕ × Position)) (p : Position) → times_entered client (e ∷ clients) ≤ 1
+    → (times_entered client clients ≤ 1 → position_in clients client ≡ Some p) → position_in (e ∷ clients) client ≡ Some p
 found-later client e clients p once later = by (nat_eq client e.0) refl
   where
     sum : times_entered client (e ∷ clients) ≡ cond (nat_eq client e.0) 1 0 + times_entered client clients
@@ -112,10 +134,12 @@ found-later client e clients p once later = by (nat_eq client e.0) refl
     by false here = later (omega (arith, sum))
 
 -- a grant of the table is the position of its client
-holder-found : (y : Lists) (names : List (ℕ × Standing)) (name client : ℕ) → times_entered client (placed y names) ≤ 1 → Contains (grants_in names) (name, client) → position_in (placed y names) client ≡ Some (Holds name)
+holder-found : (y : Lists) (names : List (ℕ × Standing)) (name client : ℕ) → times_entered client (placed y names) ≤ 1
+    → Contains (grants_in names) (name, client) → position_in (placed y names) client ≡ Some (Holds name)
 holder-found y [] name client once (k, within, is) = absurd (omega arith)
 holder-found y ((c, Walking token) ∷ names) name client once has =
-    found-later client (c, position_by y (Walking token)) (placed y names) (Holds name) once (λ once. holder-found y names name client once has)
+    found-later client (c, position_by y (Walking token)) (placed y names) (Holds name) once
+    (λ once. holder-found y names name client once has)
 holder-found y ((c, Named n) ∷ names) name client once (zero, within, is) =
     let its : c ≡ client = ap (λ (g : ℕ × ℕ). g.1) is in
     let name_is : n ≡ name = ap (λ (g : ℕ × ℕ). g.0) is in
@@ -130,10 +154,12 @@ names-rise grants rising i j d before within =
     let there : j < length grants = omega (arith, length-map grants f) in
     let at = get_or-map f grants i (0, 0) d (omega arith) in
     let to = get_or-map f grants j (0, 0) d there in
-    let order : (get_or grants i (0, 0)).0 ≤ (get_or grants j (0, 0)).0 = elim (rising i j (0, 0) before there) [ inl less ↦ omega arith | inr (same, clients) ↦ omega arith ] in
+    let order : (get_or grants i (0, 0)).0 ≤ (get_or grants j (0, 0)).0 =
+    elim (rising i j (0, 0) before there) [ inl less ↦ omega arith | inr (same, clients) ↦ omega arith ] in
     omega arith
 
-pub holders-listed : (s : State) (c : Clients) (holders : List ℕ) → s.clients ≡ positions c → IsCore s → inside_in s ≡ 0 → ListsByName c.names holders → ListsStateHolders s holders
+pub holders-listed : (s : State) (c : Clients) (holders : List ℕ) → s.clients ≡ positions c → IsCore s → inside_in s ≡ 0
+    → ListsByName c.names holders → ListsStateHolders s holders
 holders-listed s c holders clients is none l = record { all = all; by_name = by_name; own = own; once = once }
   where
     k : ℕ
@@ -147,12 +173,19 @@ holders-listed s c holders clients is none l = record { all = all; by_name = by_
 
     own : IsPermutation (keys_of s.clients) holders
     own =
-        let keys : map (λ (grant : ℕ × ℕ). grant.1) (grants_in c.names) ≡ keys_of s.clients = ap (map (λ (grant : ℕ × ℕ). grant.1)) (sym same) ∙ keys-granted s.clients none in
-        rw l.listed (subst (λ (ks : List ℕ). IsPermutation ks (map (λ (grant : ℕ × ℕ). grant.1) l.grants)) keys (IsPermutation-map (λ (grant : ℕ × ℕ). grant.1) (grants_in c.names) l.grants l.all))
+        let keys : map (λ (grant : ℕ × ℕ). grant.1) (grants_in c.names) ≡ keys_of s.clients =
+        ap (map (λ (grant : ℕ × ℕ). grant.1)) (sym same) ∙ keys-granted s.clients none in
+        rw l.listed (subst (λ (ks : List ℕ). IsPermutation ks (map (λ (grant : ℕ × ℕ). grant.1) l.grants)) keys
+        (IsPermutation-map (λ (grant : ℕ × ℕ). grant.1) (grants_in c.names) l.grants l.all))
 
     once : (client : ℕ) → count_by (nat_eq client) holders ≤ 1
     once client =
-        omega (arith, sum_by-IsPermutation (λ (k : ℕ). cond (nat_eq client k) 1 0) (keys_of s.clients) holders own, times-keys client s.clients, is.state.once client)
+        omega (
+          arith,
+          sum_by-IsPermutation (λ (k : ℕ). cond (nat_eq client k) 1 0) (keys_of s.clients) holders own,
+          times-keys client s.clients,
+          is.state.once client,
+        )
 
     order : IsPermutation (range_with_len 0 k) (map f l.grants)
     order =
@@ -172,8 +205,12 @@ holders-listed s c holders clients is none l = record { all = all; by_name = by_
     by_name name below =
         let there : name < length l.grants = omega (arith, len) in
         let grant = get_or l.grants name (0, 0) in
-        let its : grant.0 ≡ name = sym (get_or-map f l.grants name (0, 0) 0 there) ∙ ap (λ ns. get_or ns name 0) names-are ∙ get_or-range_with_len 0 k name 0 below ∙ zero-add name in
-        let who : get_or holders name 0 ≡ grant.1 = ap (λ hs. get_or hs name 0) l.listed ∙ get_or-map (λ (g : ℕ × ℕ). g.1) l.grants name (0, 0) 0 there in
-        let has = Contains-permutation l.grants (grants_in c.names) grant (IsPermutation-sym (grants_in c.names) l.grants l.all) (Contains-get_or l.grants name (0, 0) there) in
-        let found = holder-found c.yard.lists c.names grant.0 grant.1 (subst (λ cs. times_entered grant.1 cs ≤ 1) clients (is.state.once grant.1)) has in
+        let its : grant.0 ≡ name = sym (get_or-map f l.grants name (0, 0) 0 there) ∙ ap (λ ns. get_or ns name 0) names-are
+        ∙ get_or-range_with_len 0 k name 0 below ∙ zero-add name in
+        let who : get_or holders name 0 ≡ grant.1 =
+        ap (λ hs. get_or hs name 0) l.listed ∙ get_or-map (λ (g : ℕ × ℕ). g.1) l.grants name (0, 0) 0 there in
+        let has = Contains-permutation l.grants (grants_in c.names) grant (IsPermutation-sym (grants_in c.names) l.grants l.all)
+        (Contains-get_or l.grants name (0, 0) there) in
+        let found = holder-found c.yard.lists c.names grant.0 grant.1
+        (subst (λ cs. times_entered grant.1 cs ≤ 1) clients (is.state.once grant.1)) has in
         rw (who, clients, found, its) refl

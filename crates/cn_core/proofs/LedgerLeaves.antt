@@ -45,17 +45,24 @@ given-leave w i j x v m n li more =
 
 -- a grant is made where its visit is given, under its name
 granted-leave : (w i j x v name c d m n : ℕ) → i < w → n ≡ m + when (eqb d c && eqb (name_of w i x) name) 1
-    → when (nat_lt j w && eqb (name_of w j v) name) n ≡ when (nat_lt j w && eqb (name_of w j v) name) m + when (eqb c d && (eqb i j && (eqb x v && eqb (name_of w i x) name))) 1
+    → when (nat_lt j w && eqb (name_of w j v) name) n
+    ≡ when (nat_lt j w && eqb (name_of w j v) name) m + when (eqb c d && (eqb i j && (eqb x v && eqb (name_of w i x) name))) 1
 granted-leave w i j x v name c d m n li more =
     elim (cases_lt j w) [
       | inl lj ↦ elim (cases_eq (name_of w j v) name) [
         | inl e ↦
-            let same : eqb (name_of w i x) name ≡ (eqb j i && eqb x v) = ap (λ k. eqb (name_of w i x) k) (sym e) ∙ names-same w i j x v li lj in
-            rw (lt-ltb j w lj, eq-eqb (name_of w j v) name e) (more ∙ ap (λ (b : Bool). m + when b 1) (tidy (eqb d c) (eqb c d) (eqb j i) (eqb i j) (eqb x v) (eqb (name_of w i x) name) (eqb-sym d c) (eqb-sym j i) same))
+            let same : eqb (name_of w i x) name ≡ (eqb j i && eqb x v) =
+            ap (λ k. eqb (name_of w i x) k) (sym e) ∙ names-same w i j x v li lj in
+            rw (lt-ltb j w lj, eq-eqb (name_of w j v) name e)
+            (more ∙ ap (λ (b : Bool). m + when b 1) (tidy (eqb d c) (eqb c d) (eqb j i) (eqb i j) (eqb x v) (eqb (name_of w i x) name)
+            (eqb-sym d c) (eqb-sym j i) same))
         | inr differ ↦
-            rw (lt-ltb j w lj, ne_eqb (name_of w j v) name differ) (sym (ap (λ (b : Bool). 0 + when b 1) (never (eqb c d) (elim (cases_eq i j) [
+            rw (lt-ltb j w lj, ne_eqb (name_of w j v) name differ)
+            (sym (ap (λ (b : Bool). 0 + when b 1) (never (eqb c d) (elim (cases_eq i j) [
               | inl ij ↦ elim (cases_eq x v) [
-                | inl xv ↦ ap (λ b. eqb i j && (eqb x v && b)) (ne_eqb (name_of w i x) name (λ e. differ (ap₂ (λ k n. name_of w k n) (sym ij) (sym xv) ∙ e))) ∙ ap (λ b. eqb i j && b) (and-false (eqb x v)) ∙ and-false (eqb i j)
+                | inl xv ↦ ap (λ b. eqb i j && (eqb x v && b))
+                    (ne_eqb (name_of w i x) name (λ e. differ (ap₂ (λ k n. name_of w k n) (sym ij) (sym xv) ∙ e)))
+                    ∙ ap (λ b. eqb i j && b) (and-false (eqb x v)) ∙ and-false (eqb i j)
                 | inr nxv ↦ ap (λ b. eqb i j && (b && eqb (name_of w i x) name)) (ne_eqb x v nxv) ∙ and-false (eqb i j)
               ]
               | inr nij ↦ ap (λ b. b && (eqb x v && eqb (name_of w i x) name)) (ne_eqb i j nij)
@@ -76,7 +83,8 @@ granted-leave w i j x v name c d m n li more =
         bools true true false = refl
         bools true true true = refl
 
-pub ledger-leaves : (s : State) (h : List Event) (k : Carried) (client wire i : ℕ) → IsState s → position_in s.clients client ≡ Some (On wire) → end_of s.network.table wire ≡ Exit i → AgreesAfter s h k
+pub ledger-leaves : (s : State) (h : List Event) (k : Carried) (client wire i : ℕ) → IsState s
+    → position_in s.clients client ≡ Some (On wire) → end_of s.network.table wire ≡ Exit i → AgreesAfter s h k
     → Leaves s.network.table (state_ledger s h k) (state_ledger (state_after_step s client (Exit i)) (Step client ∷ h) k) client wire i
 ledger-leaves s h k client wire i is on ends a = record {
   goes = record {
@@ -94,7 +102,8 @@ ledger-leaves s h k client wire i is on ends a = record {
       (when (0 == d) (given_before s j v) + count_by (λ e. nat_eq d e.0 && holds s.base name e.1) (with_position s.clients client to))
       below
       (ap (λ (n : ℕ). when (0 == d) (given_before s j v) + n)
-      (held-pair-after s name client wire to d on ∙ ap (λ (n : ℕ). count_by (λ e. nat_eq d e.0 && holds s.base name e.1) s.clients + when (nat_eq d client && (n == name)) 1) whole)
+      (held-pair-after s name client wire to d on
+      ∙ ap (λ (n : ℕ). count_by (λ e. nat_eq d e.0 && holds s.base name e.1) s.clients + when (nat_eq d client && (n == name)) 1) whole)
       ∙ omega arith);
 }
   where
@@ -111,14 +120,18 @@ ledger-leaves s h k client wire i is on ends a = record {
     whole : name_of w i (slice_index s.visits i) - s.base + s.base ≡ name_of w i (slice_index s.visits i)
     whole = omega (arith, name-later s is i below)
 
-    given : (other : End) (n : ℕ) → given_in_state (state_after_step s client (Exit i)) (Step client ∷ h) k other n ≡ given_in_state s h k other n + when (is_end (Exit i) other && (slice_index s.visits i == n)) 1
+    given : (other : End) (n : ℕ) → given_in_state (state_after_step s client (Exit i)) (Step client ∷ h) k other n
+        ≡ given_in_state s h k other n + when (is_end (Exit i) other && (slice_index s.visits i == n)) 1
     given (Balancer b) n =
-        ap (λ (t : ℕ). once_below (k.steps (Balancer b)) n + t) (passed-after s h k client wire (Exit i) on ends a b n ∙ add-zero (times_passed s.network.table h k b n))
+        ap (λ (t : ℕ). once_below (k.steps (Balancer b)) n + t)
+        (passed-after s h k client wire (Exit i) on ends a b n ∙ add-zero (times_passed s.network.table h k b n))
         ∙ sym (add-zero (given_in_state s h k (Balancer b) n))
     given (Exit j) v =
         given-leave w i j (slice_index s.visits i) v
-        (given_before s j v + count_by (holds s.base (name_of w j v)) (values_of s.clients)) (given_before s j v + count_by (holds s.base (name_of w j v)) (values_of (with_position s.clients client to)))
+        (given_before s j v + count_by (holds s.base (name_of w j v)) (values_of s.clients))
+        (given_before s j v + count_by (holds s.base (name_of w j v)) (values_of (with_position s.clients client to)))
         below
         (ap (λ (n : ℕ). given_before s j v + n)
-        (held-after s (name_of w j v) client wire to on ∙ ap (λ (n : ℕ). count_by (holds s.base (name_of w j v)) (values_of s.clients) + when (n == name_of w j v) 1) whole)
+        (held-after s (name_of w j v) client wire to on
+        ∙ ap (λ (n : ℕ). count_by (holds s.base (name_of w j v)) (values_of s.clients) + when (n == name_of w j v) 1) whole)
         ∙ omega arith)

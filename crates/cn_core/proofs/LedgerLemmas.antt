@@ -24,7 +24,8 @@ use Rattle.cn_core.proofs.LedgerLeaves.{ledger-leaves}
 -- ---- every state is a sound ledger
 
 -- a ledger whose numbers are those of another is as sound
-sound-like : (s : State) (h g : List Event) (k m : Carried) → AgreesAfter s g m → IsSound s.network.table (state_ledger s h k) → IsSound s.network.table (state_ledger s g m)
+sound-like : (s : State) (h g : List Event) (k m : Carried) → AgreesAfter s g m → IsSound s.network.table (state_ledger s h k)
+    → IsSound s.network.table (state_ledger s g m)
 sound-like s h g k m b sound = record {
   balanced = sound.balanced;
   clients = sound.clients;
@@ -53,7 +54,14 @@ IsCore-start network is = record {
     [],
     Agrees-start network,
     sound-nothing network.table (state_ledger (start network) [] (carried_by network.table []))
-        (record { entered = zero_at network.table.entries; count = count; on = λ u. refl; standing = λ u c. refl; given = given; granted = granted }),
+        (record {
+          entered = zero_at network.table.entries;
+          count = count;
+          on = λ u. refl;
+          standing = λ u c. refl;
+          given = given;
+          granted = granted;
+        }),
   );
 }
   where
@@ -74,7 +82,8 @@ IsCore-start network is = record {
       | inr beyond ↦ rw (le-ltb i network.table.width beyond) refl
     ]
 
-    granted : (c i v name : ℕ) → when (nat_lt i network.table.width && (name_of network.table.width i v == name)) (when (0 == c) (given_before (start network) i v) + 0) ≡ 0
+    granted : (c i v name : ℕ) → when (nat_lt i network.table.width && (name_of network.table.width i v == name))
+        (when (0 == c) (given_before (start network) i v) + 0) ≡ 0
     granted c i v name = elim (cases_lt i network.table.width) [
       | inl within ↦ rw (before i v within) (cond-zero (nat_lt i network.table.width && (name_of network.table.width i v == name)) (0 == c))
       | inr beyond ↦ rw (le-ltb i network.table.width beyond) refl
@@ -85,7 +94,8 @@ IsCore-start network is = record {
         cond-zero true false = refl
         cond-zero false d = refl
 
-pub IsCore-state_after_enter : (s : State) (client entry : ℕ) → IsCore s → entry < s.network.table.entries → position_in s.clients client ≡ None → length s.clients < MOST_CLIENTS
+pub IsCore-state_after_enter : (s : State) (client entry : ℕ) → IsCore s → entry < s.network.table.entries
+    → position_in s.clients client ≡ None → length s.clients < MOST_CLIENTS
     → IsCore (state_after_enter s client entry)
 IsCore-state_after_enter s client entry is within absent room =
     let (h, earlier, (epochs, a), sound) = is.reached in
@@ -96,11 +106,13 @@ IsCore-state_after_enter s client entry is within absent room =
         Enter client entry ∷ h,
         earlier,
         (epochs, AgreesAfter-state_after_enter s h k client entry is.state within absent room a),
-        sound-enters s.network.table (state_ledger s h k) (state_ledger (state_after_enter s client entry) (Enter client entry ∷ h) k) client entry (ledger-enters s h k client entry is.state within) sound,
+        sound-enters s.network.table (state_ledger s h k) (state_ledger (state_after_enter s client entry) (Enter client entry ∷ h) k)
+            client entry (ledger-enters s h k client entry is.state within) sound,
       );
     }
 
-pub IsCore-state_after_step : (s : State) (client wire : ℕ) (end : End) → IsCore s → position_in s.clients client ≡ Some (On wire) → end_of s.network.table wire ≡ end
+pub IsCore-state_after_step : (s : State) (client wire : ℕ) (end : End) → IsCore s → position_in s.clients client ≡ Some (On wire)
+    → end_of s.network.table wire ≡ end
     → IsCore (state_after_step s client end)
 IsCore-state_after_step s client wire (Balancer b) is on ends =
     let (h, earlier, (epochs, a), sound) = is.reached in
@@ -111,7 +123,8 @@ IsCore-state_after_step s client wire (Balancer b) is on ends =
         Step client ∷ h,
         earlier,
         (epochs, AgreesAfter-state_after_step s h k client wire (Balancer b) is.state on ends a),
-        sound-passes s.network.table (state_ledger s h k) (state_ledger (state_after_step s client (Balancer b)) (Step client ∷ h) k) client wire b (ledger-passes s h k client wire b is.state on ends a) sound,
+        sound-passes s.network.table (state_ledger s h k) (state_ledger (state_after_step s client (Balancer b)) (Step client ∷ h) k) client
+            wire b (ledger-passes s h k client wire b is.state on ends a) sound,
       );
     }
 IsCore-state_after_step s client wire (Exit i) is on ends =
@@ -123,20 +136,24 @@ IsCore-state_after_step s client wire (Exit i) is on ends =
         Step client ∷ h,
         earlier,
         (epochs, AgreesAfter-state_after_step s h k client wire (Exit i) is.state on ends a),
-        sound-leaves s.network.table is.state.network.formed (state_ledger s h k) (state_ledger (state_after_step s client (Exit i)) (Step client ∷ h) k) client wire i (ledger-leaves s h k client wire i is.state on ends a) sound,
+        sound-leaves s.network.table is.state.network.formed (state_ledger s h k)
+            (state_ledger (state_after_step s client (Exit i)) (Step client ∷ h) k) client wire i
+            (ledger-leaves s h k client wire i is.state on ends a) sound,
       );
     }
 
 -- ---- each accepted call is one event on the ledger
 
-pub ledger-step : (old : State) (client : ℕ) (moved : Moved) (new : State) → IsState old → StepsTo old client (Stepped moved) new → IsLedgerEvent old (Step client) (Stepped moved) new
+pub ledger-step : (old : State) (client : ℕ) (moved : Moved) (new : State) → IsState old → StepsTo old client (Stepped moved) new
+    → IsLedgerEvent old (Step client) (Stepped moved) new
 ledger-step old client moved new is (wire, on, m, e) h earlier (epochs, a) = rw (m, e) (by (end_of old.network.table wire) refl)
   where
     k : Carried
     k = carried_by old.network.table earlier
 
     by : (end : End) → end_of old.network.table wire ≡ end
-        → IsMoveOf old.network.table old.base (state_ledger old h k) (state_ledger (state_after_step old client end) (Step client ∷ h) k) client (moved_past old.network.table old.base end (past old end))
+        → IsMoveOf old.network.table old.base (state_ledger old h k) (state_ledger (state_after_step old client end) (Step client ∷ h) k)
+        client (moved_past old.network.table old.base end (past old end))
     by (Balancer b) ends = (wire, ledger-passes old h k client wire b is on ends a, refl, refl)
     by (Exit i) ends =
         let below : i < old.network.table.width = stands-at old.network is.network wire (Exit i) (is.on_wires client wire on) ends in

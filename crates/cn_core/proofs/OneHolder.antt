@@ -19,11 +19,13 @@ steps-rise table (Step c ∷ h) carried end = omega (arith, steps-rise table h c
 
 module _ (network : Network) (carried : Carried) (is : IsNetwork network) (shares : HasShares network.table.width carried) where
   -- the name of a visit that comes now is not below those that are carried
-  late : (h : List Event) (i : ℕ) → i < network.table.width → carried.enters ≤ name_of network.table.width i (steps_before network.table h carried (Exit i))
+  late : (h : List Event) (i : ℕ) → i < network.table.width
+      → carried.enters ≤ name_of network.table.width i (steps_before network.table h carried (Exit i))
   late h i within =
       let v : ℕ = steps_before network.table h carried (Exit i) in
       elim (cases_lt (name_of network.table.width i v) carried.enters) [
-        | inl less ↦ absurd (let early = (name-below carried.enters network.table.width i v within).1 less in omega (arith, shares i within, steps-rise network.table h carried (Exit i)))
+        | inl less ↦ absurd (let early = (name-below carried.enters network.table.width i v within).1 less in
+            omega (arith, shares i within, steps-rise network.table h carried (Exit i)))
         | inr beyond ↦ beyond
       ]
 
@@ -41,21 +43,33 @@ module _ (network : Network) (carried : Carried) (is : IsNetwork network) (share
     named : name + carried.enters ≡ name_of network.table.width exit (steps_before network.table h carried (Exit exit))
 
   left : (h : List Event) (p : Option Position) (name : ℕ)
-      → option_map (λ end. position_past network.table carried.enters end (steps_before network.table h carried end)) (end_at network.table p) ≡ Some (Holds name) → Left h p name
+      → option_map (λ end. position_past network.table carried.enters end (steps_before network.table h carried end))
+      (end_at network.table p) ≡ Some (Holds name) → Left h p name
   left h None name e = absurd (cc)
   left h (Some (Holds other)) name e = absurd (cc)
   left h (Some (On wire)) name e = by (end_of network.table wire) refl e
     where
-      by : (end : End) → end_of network.table wire ≡ end → Some (position_past network.table carried.enters end (steps_before network.table h carried end)) ≡ Some (Holds name) → Left h (Some (On wire)) name
+      by : (end : End) → end_of network.table wire ≡ end
+          → Some (position_past network.table carried.enters end (steps_before network.table h carried end)) ≡ Some (Holds name)
+          → Left h (Some (On wire)) name
       by (Balancer b) ends past = absurd (cc)
-      by (Exit i) ends past = record { exit = i; below = exit-below wire i ends; from = ap Some ends; named = let known : name_of network.table.width i (steps_before network.table h carried (Exit i)) - carried.enters ≡ name = cc in omega (arith, late h i (exit-below wire i ends)) }
+      by (Exit i) ends past = record {
+        exit = i;
+        below = exit-below wire i ends;
+        from = ap Some ends;
+        named = let known : name_of network.table.width i (steps_before network.table h carried (Exit i)) - carried.enters ≡ name = cc in
+            omega (arith, late h i (exit-below wire i ends));
+      }
 
   -- what a step does to the positions: it changes only its client's
-  mine : (h : List Event) (b name : ℕ) → position_after network.table (Step b ∷ h) carried b ≡ Some (Holds name) → Left h (position_after network.table h carried b) name
+  mine : (h : List Event) (b name : ℕ) → position_after network.table (Step b ∷ h) carried b ≡ Some (Holds name)
+      → Left h (position_after network.table h carried b) name
   mine h b name e = left h (position_after network.table h carried b) name (rw (eq-eqb b b refl) at e)
 
   -- the visit of a name was made before
-  given : (h : List Event) (c name : ℕ) → position_after network.table h carried c ≡ Some (Holds name) → (name + carried.enters) / network.table.width < steps_before network.table h carried (Exit ((name + carried.enters) % network.table.width))
+  given : (h : List Event) (c name : ℕ) → position_after network.table h carried c ≡ Some (Holds name)
+      → (name + carried.enters) / network.table.width
+      < steps_before network.table h carried (Exit ((name + carried.enters) % network.table.width))
   given [] c name e = absurd (cc)
   given (Enter b entry ∷ h) c name e = elim (cases_eq c b) [
     | inl same ↦ absurd (let z = eq-eqb c b same in cc)
@@ -70,11 +84,13 @@ module _ (network : Network) (carried : Carried) (is : IsNetwork network) (share
   ]
 
   -- who leaves now has a name that nobody holds
-  fresh : (h : List Event) (b c name : ℕ) → Left h (position_after network.table h carried b) name → position_after network.table h carried c ≡ Some (Holds name) → ⊥
+  fresh : (h : List Event) (b c name : ℕ) → Left h (position_after network.table h carried b) name
+      → position_after network.table h carried c ≡ Some (Holds name) → ⊥
   fresh h b c name l held =
       let (exit, visit) = exit_of-name_of network.table.width l.exit (steps_before network.table h carried (Exit l.exit)) l.below in
       let before = given h c name held in
-      let now : (name + carried.enters) / network.table.width ≡ steps_before network.table h carried (Exit ((name + carried.enters) % network.table.width)) = rw (l.named, exit, visit) refl in
+      let now : (name + carried.enters) / network.table.width
+      ≡ steps_before network.table h carried (Exit ((name + carried.enters) % network.table.width)) = rw (l.named, exit, visit) refl in
       omega arith
 
   pub one-holder : (h : List Event) → HasOneHolder network.table h carried

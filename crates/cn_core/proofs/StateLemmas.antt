@@ -17,17 +17,22 @@ abbrev pub given_before : State → ℕ → ℕ → ℕ
 given_before s i v = once_below (share s.base s.network.table.width i) v
 
 -- what a table says of the end of a wire
-pub stands-at : (network : Network) → IsNetwork network → (wire : ℕ) (end : End) → wire < length network.table.ends → end_of network.table wire ≡ end → Stands network.table end
+pub stands-at : (network : Network) → IsNetwork network → (wire : ℕ) (end : End) → wire < length network.table.ends
+    → end_of network.table wire ≡ end → Stands network.table end
 stands-at network is wire end within e = subst (Stands network.table) e (is.formed.stands wire within)
 
-pub leads-on : (network : Network) → IsNetwork network → (wire b : ℕ) → wire < length network.table.ends → end_of network.table wire ≡ Balancer b → wire < network.table.entries + 2 * b
+pub leads-on : (network : Network) → IsNetwork network → (wire b : ℕ) → wire < length network.table.ends
+    → end_of network.table wire ≡ Balancer b → wire < network.table.entries + 2 * b
 leads-on network is wire b within e = subst (LeadsOn network.table wire) e (is.formed.forward wire within)
 
-once-push : (clients : List (ℕ × Position)) (client : ℕ) (position : Position) → position_in clients client ≡ None → ((q : ℕ) → times_entered q clients ≤ 1)
+once-push : (clients : List (ℕ × Position)) (client : ℕ) (position : Position) → position_in clients client ≡ None
+    → ((q : ℕ) → times_entered q clients ≤ 1)
     → (q : ℕ) → times_entered q (clients ++ (client, position) ∷ []) ≤ 1
-once-push clients client position absent once q = grind (arith, nat_tests, once q, times-push clients client position q, times-absent clients client absent)
+once-push clients client position absent once q =
+    grind (arith, nat_tests, once q, times-push clients client position q, times-absent clients client absent)
 
-pub IsState-state_after_enter : (s : State) (client entry : ℕ) → IsState s → entry < s.network.table.entries → position_in s.clients client ≡ None → length s.clients < MOST_CLIENTS
+pub IsState-state_after_enter : (s : State) (client entry : ℕ) → IsState s → entry < s.network.table.entries
+    → position_in s.clients client ≡ None → length s.clients < MOST_CLIENTS
     → IsState (state_after_enter s client entry)
 IsState-state_after_enter s client entry is within absent room = record {
   network = is.network;
@@ -43,7 +48,8 @@ IsState-state_after_enter s client entry is within absent room = record {
     nat_tests,
     is.all,
     length-append s.clients ((client, On entry) ∷ []),
-    sum-below-change s.network.table.entries entry 1 (λ e. slice_index s.entered e) (λ e. slice_index (one_more s.entered entry) e) (λ u. one_more-at s.entered entry u (omega (arith, is.entries))),
+    sum-below-change s.network.table.entries entry 1 (λ e. slice_index s.entered e) (λ e. slice_index (one_more s.entered entry) e)
+        (λ u. one_more-at s.entered entry u (omega (arith, is.entries))),
   );
   on_wires = λ q wire on. on-wire q wire on;
 }
@@ -58,7 +64,8 @@ half : (n : ℕ) → n % 2 < 2
 half n = omega arith
 
 -- a token that steps off a wire goes past the balancer there, which it had not passed
-pub IsState-state_after_step : (s : State) (client wire : ℕ) (end : End) → IsState s → position_in s.clients client ≡ Some (On wire) → end_of s.network.table wire ≡ end
+pub IsState-state_after_step : (s : State) (client wire : ℕ) (end : End) → IsState s → position_in s.clients client ≡ Some (On wire)
+    → end_of s.network.table wire ≡ end
     → IsState (state_after_step s client end)
 IsState-state_after_step s client wire (Balancer b) is on ends = record {
   network = is.network;
@@ -147,8 +154,10 @@ IsState-after_carry s is room shared = record {
 }
 
 -- the next name of an exit is none of those that were given before the epoch
-pub name-later : (s : State) → IsState s → (i : ℕ) → i < s.network.table.width → s.base ≤ name_of s.network.table.width i (slice_index s.visits i)
+pub name-later : (s : State) → IsState s → (i : ℕ) → i < s.network.table.width
+    → s.base ≤ name_of s.network.table.width i (slice_index s.visits i)
 name-later s is i within = elim (cases_lt (name_of s.network.table.width i (slice_index s.visits i)) s.base) [
   | inr later ↦ later
-  | inl before ↦ let low = (name-below s.base s.network.table.width i (slice_index s.visits i) within).1 before in absurd (omega (arith, is.shares i within))
+  | inl before ↦ let low = (name-below s.base s.network.table.width i (slice_index s.visits i) within).1 before in
+      absurd (omega (arith, is.shares i within))
 ]

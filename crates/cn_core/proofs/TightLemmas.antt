@@ -31,7 +31,8 @@ granted-name s is client name e =
     let n : ℕ = name + s.base in
     let (least, most) = is.network.formed.width in
     let below : n % w < w = mod_below n w (omega arith) in
-    let found = count-pair-found (holds s.base n) client s.clients (Holds name) (named-position (position_in s.clients client) name e) (is.once client) in
+    let found = count-pair-found (holds s.base n) client s.clients (Holds name) (named-position (position_in s.clients client) name e)
+    (is.once client) in
     let one : ◌≡◌ {A = ℕ} (cond (holds s.base n (Holds name)) 1 0) 1 = ap {B = ℕ} (λ b. cond b 1 0) (eq-eqb n n refl) in
     rw (lt-ltb (n % w) w below, eq-eqb (name_of w (n % w) (n / w)) n (name_of-exit_of w n)) (omega (arith, found, one))
 
@@ -62,26 +63,44 @@ pub on-inside : (u : ℕ) (clients : List (ℕ × Position)) → count_by (is_on
 on-inside u [] = omega arith
 on-inside u ((c, On wire) ∷ rest) =
     let one = less (wire == u) in
-    omega (arith, on-inside u rest, sum_by-cons (λ (p : Position). cond (is_on u p) 1 0) (On wire) (values_of rest), sum_by-cons (λ (p : Position). cond (is_inside p) 1 0) (On wire) (values_of rest))
+    omega (
+      arith,
+      on-inside u rest,
+      sum_by-cons (λ (p : Position). cond (is_on u p) 1 0) (On wire) (values_of rest),
+      sum_by-cons (λ (p : Position). cond (is_inside p) 1 0) (On wire) (values_of rest),
+    )
   where
     less : (b : Bool) → cond b 1 0 ≤ 1
     less true = omega arith
     less false = omega arith
 on-inside u ((c, Holds name) ∷ rest) =
-    omega (arith, on-inside u rest, sum_by-cons (λ (p : Position). cond (is_on u p) 1 0) (Holds name) (values_of rest), sum_by-cons (λ (p : Position). cond (is_inside p) 1 0) (Holds name) (values_of rest))
+    omega (
+      arith,
+      on-inside u rest,
+      sum_by-cons (λ (p : Position). cond (is_on u p) 1 0) (Holds name) (values_of rest),
+      sum_by-cons (λ (p : Position). cond (is_inside p) 1 0) (Holds name) (values_of rest),
+    )
 
 -- the grants are those of the clients that hold names
 length-grants-in : (clients : List (ℕ × Position)) → length (grants_of_clients clients) ≡ count_by is_named (values_of clients)
 length-grants-in [] = refl
-length-grants-in ((c, On wire) ∷ rest) = omega (arith, length-grants-in rest, sum_by-cons (λ (p : Position). cond (is_named p) 1 0) (On wire) (values_of rest))
-length-grants-in ((c, Holds name) ∷ rest) = omega (arith, length-grants-in rest, sum_by-cons (λ (p : Position). cond (is_named p) 1 0) (Holds name) (values_of rest))
+length-grants-in ((c, On wire) ∷ rest) =
+    omega (arith, length-grants-in rest, sum_by-cons (λ (p : Position). cond (is_named p) 1 0) (On wire) (values_of rest))
+length-grants-in ((c, Holds name) ∷ rest) =
+    omega (arith, length-grants-in rest, sum_by-cons (λ (p : Position). cond (is_named p) 1 0) (Holds name) (values_of rest))
 
-clients-grants-in : (q : ℕ) (clients : List (ℕ × Position)) → count_by (λ grant. nat_eq q grant.1) (grants_of_clients clients) ≤ times_entered q clients
+clients-grants-in : (q : ℕ) (clients : List (ℕ × Position))
+    → count_by (λ grant. nat_eq q grant.1) (grants_of_clients clients) ≤ times_entered q clients
 clients-grants-in q [] = omega arith
 clients-grants-in q ((c, On wire) ∷ rest) =
     omega (arith, clients-grants-in q rest, sum_by-cons (λ (e : ℕ × Position). cond (nat_eq q e.0) 1 0) (c, On wire) rest)
 clients-grants-in q ((c, Holds name) ∷ rest) =
-    omega (arith, clients-grants-in q rest, sum_by-cons (λ (e : ℕ × Position). cond (nat_eq q e.0) 1 0) (c, Holds name) rest, sum_by-cons (λ (grant : ℕ × ℕ). cond (nat_eq q grant.1) 1 0) (name, c) (grants_of_clients rest))
+    omega (
+      arith,
+      clients-grants-in q rest,
+      sum_by-cons (λ (e : ℕ × Position). cond (nat_eq q e.0) 1 0) (c, Holds name) rest,
+      sum_by-cons (λ (grant : ℕ × ℕ). cond (nat_eq q grant.1) 1 0) (name, c) (grants_of_clients rest),
+    )
 
 eqb-shift : (m n base : ℕ) → (m + base == n + base) ≡ (m == n)
 eqb-shift m n base = elim (cases_eq m n) [
@@ -89,13 +108,24 @@ eqb-shift m n base = elim (cases_eq m n) [
   | inr d ↦ ne_eqb (m + base) (n + base) (λ e. d (omega arith)) ∙ sym (ne_eqb m n d)
 ]
 
-names-grants-in : (base n : ℕ) (clients : List (ℕ × Position)) → times n (map (λ grant. grant.0) (grants_of_clients clients)) ≡ count_by (holds base (n + base)) (values_of clients)
+names-grants-in : (base n : ℕ) (clients : List (ℕ × Position))
+    → times n (map (λ grant. grant.0) (grants_of_clients clients)) ≡ count_by (holds base (n + base)) (values_of clients)
 names-grants-in base n [] = times-nil n
 names-grants-in base n ((c, On wire) ∷ rest) =
-    omega (arith, names-grants-in base n rest, sum_by-cons (λ (p : Position). cond (holds base (n + base) p) 1 0) (On wire) (values_of rest))
+    omega (
+      arith,
+      names-grants-in base n rest,
+      sum_by-cons (λ (p : Position). cond (holds base (n + base) p) 1 0) (On wire) (values_of rest),
+    )
 names-grants-in base n ((c, Holds name) ∷ rest) =
-    let same : ◌≡◌ {A = ℕ} (cond (name + base == n + base) 1 0) (cond (name == n) 1 0) = ap {B = ℕ} (λ b. cond b 1 0) (eqb-shift name n base) in
-    omega (arith, names-grants-in base n rest, times-cons n name (map (λ grant. grant.0) (grants_of_clients rest)), sum_by-cons (λ (p : Position). cond (holds base (n + base) p) 1 0) (Holds name) (values_of rest))
+    let same : ◌≡◌ {A = ℕ} (cond (name + base == n + base) 1 0) (cond (name == n) 1 0) =
+    ap {B = ℕ} (λ b. cond b 1 0) (eqb-shift name n base) in
+    omega (
+      arith,
+      names-grants-in base n rest,
+      times-cons n name (map (λ grant. grant.0) (grants_of_clients rest)),
+      sum_by-cons (λ (p : Position). cond (holds base (n + base) p) 1 0) (Holds name) (values_of rest),
+    )
 
 -- a name from the base on was not given before
 not-before : (base w n : ℕ) → n % w < w → base ≤ n → once_below (share base w (n % w)) (n / w) ≡ 0
@@ -129,8 +159,10 @@ tight-state s is none =
             let m : ℕ = n + s.base in
             let below : m % w < w = mod_below m w (omega arith) in
             let before : given_before s (m % w) (m / w) ≡ 0 = not-before s.base w m below (omega arith) in
-            let given : times_given s.network.table l m ≡ given_before s (m % w) (m / w) + count_by (holds s.base m) (values_of s.clients) = rw (lt-ltb (m % w) w below, name_of-exit_of w m) refl in
-            let among : once_below (came_in s) m ≡ once_below (length s.clients) n = once-shift s.base (length s.clients) n (came_in s) is.state.all in
+            let given : times_given s.network.table l m ≡ given_before s (m % w) (m / w) + count_by (holds s.base m) (values_of s.clients) =
+            rw (lt-ltb (m % w) w below, name_of-exit_of w m) refl in
+            let among : once_below (came_in s) m ≡ once_below (length s.clients) n =
+            once-shift s.base (length s.clients) n (came_in s) is.state.all in
             omega (arith, names-grants-in s.base n s.clients, given, t.names m, before, among));
       };
     }

@@ -48,14 +48,16 @@ said-tight old r said came tight = record {
       omega arith;
 }
 
-pub said-record : (old : Epochs) (r : EpochRecord) → TellsEpoch old r → (turns : ℕ) (history : List Event) (carried : Carried) → old.number ≡ turns → AgreesAfter old.core history carried
+pub said-record : (old : Epochs) (r : EpochRecord) → TellsEpoch old r → (turns : ℕ) (history : List Event) (carried : Carried)
+    → old.number ≡ turns → AgreesAfter old.core history carried
     → HasShares old.core.network.table.width carried → IsRecordOf old.core.network.table turns history carried r
 said-record old r said turns history carried number agrees shares = record {
   number = said.number ∙ number;
   clients = said.clients ∙ agrees.total;
   exits = said.exits;
   counts = λ i within.
-      let before : carried.steps (Exit i) ≡ share old.core.base old.core.network.table.width i = shares i within ∙ ap (λ m. share m old.core.network.table.width i) (sym agrees.base) in
+      let before : carried.steps (Exit i) ≡ share old.core.base old.core.network.table.width i =
+      shares i within ∙ ap (λ m. share m old.core.network.table.width i) (sym agrees.base) in
       omega (arith, said.counts i within, agrees.counts (Exit i));
   names = said.holders.all ∙ agrees.total;
   holders = λ name below.
@@ -65,15 +67,19 @@ said-record old r said turns history carried number agrees shares = record {
 }
 
 -- nobody is inside by history
-quiet-by_history : (old : Epochs) → inside_in old.core ≡ 0 → ByEpochHistories old (λ turns history carried. inside_of old.core.network.table history carried ≡ 0)
-quiet-by_history old quiet turns history kept agrees = sym (inside-by_history old.core history (carried_by old.core.network.table (earlier_in kept)) agrees.core.1) ∙ quiet
+quiet-by_history : (old : Epochs) → inside_in old.core ≡ 0
+    → ByEpochHistories old (λ turns history carried. inside_of old.core.network.table history carried ≡ 0)
+quiet-by_history old quiet turns history kept agrees =
+    sym (inside-by_history old.core history (carried_by old.core.network.table (earlier_in kept)) agrees.core.1) ∙ quiet
 
 next-by : (core : State) (carries is : Bool) → carries ≡ is → next carries core ≡ next is core
 next-by core carries is same = ap (λ carries. next carries core) same
 
 -- the next epoch agrees with the history that a turn leaves
-begun-after : (old : Epochs) (turns : ℕ) (history : List Event) (kept : Option (List (List Event))) (r : EpochRecord) → inside_in old.core ≡ 0 → EpochsAgree old turns history kept
-    → EpochsAgree (record { number = old.number + 1; carries = old.carries; core = next old.carries old.core }) (turns + 1) [] (kept_after kept history (Turned r))
+begun-after : (old : Epochs) (turns : ℕ) (history : List Event) (kept : Option (List (List Event))) (r : EpochRecord)
+    → inside_in old.core ≡ 0 → EpochsAgree old turns history kept
+    → EpochsAgree (record { number = old.number + 1; carries = old.carries; core = next old.carries old.core }) (turns + 1) []
+    (kept_after kept history (Turned r))
 begun-after old turns history None r quiet agrees = record {
   number = ap (λ (n : ℕ). n + 1) agrees.number;
   carries = agrees.carries;
@@ -82,13 +88,20 @@ begun-after old turns history None r quiet agrees = record {
 begun-after old turns history (Some earlier) r quiet agrees = record {
   number = ap (λ (n : ℕ). n + 1) agrees.number;
   carries = agrees.carries;
-  core = subst (λ s. core.Agrees s [] (history ∷ earlier)) (sym (next-by old.core old.carries true agrees.carries)) (Agrees-after_carry old.core history earlier quiet agrees.core);
+  core = subst (λ s. core.Agrees s [] (history ∷ earlier)) (sym (next-by old.core old.carries true agrees.carries))
+      (Agrees-after_carry old.core history earlier quiet agrees.core);
 }
 
-pub turned-after : (old new : Epochs) (r : EpochRecord) → TellsEpoch old r → core.ByHistories old.core (λ history carried. HasShares old.core.network.table.width carried) → inside_in old.core ≡ 0
-    → new ≡ record { number = old.number + 1; carries = old.carries; core = next old.carries old.core } → AnswersCommandByHistory old Turn (Turned r) new
+pub turned-after : (old new : Epochs) (r : EpochRecord) → TellsEpoch old r
+    → core.ByHistories old.core (λ history carried. HasShares old.core.network.table.width carried) → inside_in old.core ≡ 0
+    → new ≡ record { number = old.number + 1; carries = old.carries; core = next old.carries old.core }
+    → AnswersCommandByHistory old Turn (Turned r) new
 turned-after old new r said shares quiet is turns history kept agrees = (
-  (quiet-by_history old quiet turns history kept agrees, said-record old r said turns history (carried_by old.core.network.table (earlier_in kept)) agrees.number agrees.core.1 (shares history (earlier_in kept) agrees.core)),
+  (
+    quiet-by_history old quiet turns history kept agrees,
+    said-record old r said turns history (carried_by old.core.network.table (earlier_in kept)) agrees.number agrees.core.1
+        (shares history (earlier_in kept) agrees.core),
+  ),
   rw is (begun-after old turns history kept r quiet agrees),
 )
 
@@ -97,16 +110,19 @@ memory-after old quiet turns history None agrees = (quiet-by_history old quiet t
 memory-after old quiet turns history (Some earlier) agrees = (quiet-by_history old quiet turns history (Some earlier) agrees, agrees)
 
 -- those that are carried and those that entered are one more at most
-came-next : (core : State) (carries : Bool) → (next carries core).base + length (next carries core).clients ≤ core.base + length core.clients + 1
+came-next : (core : State) (carries : Bool)
+    → (next carries core).base + length (next carries core).clients ≤ core.base + length core.clients + 1
 came-next core true = omega arith
 came-next core false = omega arith
 
 pub came-after : (old : Epochs) (command : Command) (answer : Answer) (new : Epochs) → TakesCommandTo old command answer new
     → (new.carries ≡ old.carries) × (new.core.base + length new.core.clients ≤ old.core.base + length old.core.clients + 1)
-came-after old (Enter client entry) (Replied reply) new (goes, ledger, number, carries) = (carries, event-after old.core new.core (EnterEvent client entry) reply goes)
+came-after old (Enter client entry) (Replied reply) new (goes, ledger, number, carries) =
+    (carries, event-after old.core new.core (EnterEvent client entry) reply goes)
 came-after old (Enter client entry) (Turned r) new none = absurd none
 came-after old (Enter client entry) (TurnRefused fault) new none = absurd none
-came-after old (Step client) (Replied reply) new (goes, ledger, number, carries) = (carries, event-after old.core new.core (StepEvent client) reply goes)
+came-after old (Step client) (Replied reply) new (goes, ledger, number, carries) =
+    (carries, event-after old.core new.core (StepEvent client) reply goes)
 came-after old (Step client) (Turned r) new none = absurd none
 came-after old (Step client) (TurnRefused fault) new none = absurd none
 came-after old Turn (Turned r) new (quiet, said, tight, e) = rw e (refl, came-next old.core old.carries)
@@ -122,7 +138,8 @@ runs-none epochs turns history (Some earlier) agrees = (tt, agrees)
 
 -- the first answer, and those to what is left
 runs-first : (old mid new : Epochs) (c : Command) (cs : List Command) (a : Answer) (rest : List Answer)
-    → AnswersCommandByHistory old c a mid → mid.core.network ≡ old.core.network → RunsCommandsByHistory mid cs rest new → RunsCommandsByHistory old (c ∷ cs) (a ∷ rest) new
+    → AnswersCommandByHistory old c a mid → mid.core.network ≡ old.core.network → RunsCommandsByHistory mid cs rest new
+    → RunsCommandsByHistory old (c ∷ cs) (a ∷ rest) new
 runs-first old mid new c cs a rest answered same runs turns history None agrees =
     let (may, after) = answered turns history None agrees in
     let (others, last) = runs _ _ None after in
@@ -133,24 +150,30 @@ runs-first old mid new c cs a rest answered same runs turns history (Some earlie
     ((may, rw same at others), last)
 
 pub runs-at : (old mid new : Epochs) (cs : List Command) (i : ℕ) (d : Command) (a : Answer) (rest : List Answer) → i < length cs
-    → AnswersCommandByHistory old (get_or cs i d) a mid → mid.core.network ≡ old.core.network → RunsCommandsByHistory mid (drop (i + 1) cs) rest new → RunsCommandsByHistory old (drop i cs) (a ∷ rest) new
-runs-at old mid new cs i d a rest within answered same runs = rw (drop_more cs i d within) (runs-first old mid new (get_or cs i d) (drop (i + 1) cs) a rest answered same runs)
+    → AnswersCommandByHistory old (get_or cs i d) a mid → mid.core.network ≡ old.core.network
+    → RunsCommandsByHistory mid (drop (i + 1) cs) rest new → RunsCommandsByHistory old (drop i cs) (a ∷ rest) new
+runs-at old mid new cs i d a rest within answered same runs =
+    rw (drop_more cs i d within) (runs-first old mid new (get_or cs i d) (drop (i + 1) cs) a rest answered same runs)
 
 pub runs_to-at : (old mid new : Epochs) (cs : List Command) (i : ℕ) (d : Command) (a : Answer) (rest : List Answer) → i < length cs
-    → TakesCommandTo old (get_or cs i d) a mid → RunsCommandsTo mid (drop (i + 1) cs) rest new → RunsCommandsTo old (drop i cs) (a ∷ rest) new
+    → TakesCommandTo old (get_or cs i d) a mid → RunsCommandsTo mid (drop (i + 1) cs) rest new
+    → RunsCommandsTo old (drop i cs) (a ∷ rest) new
 runs_to-at old mid new cs i d a rest within goes runs = rw (drop_more cs i d within) (mid, goes, runs)
 
 -- ---- the reply to an event, as the answer to a command
 
-pub replied : (old new : Epochs) (event : Event) (reply : Reply) → AnswersByHistory old.core event reply new.core → (new.number ≡ old.number) × (new.carries ≡ old.carries) → RepliesByHistory old event reply new
+pub replied : (old new : Epochs) (event : Event) (reply : Reply) → AnswersByHistory old.core event reply new.core
+    → (new.number ≡ old.number) × (new.carries ≡ old.carries) → RepliesByHistory old event reply new
 replied old new event reply by (number, carries) turns history kept agrees =
     let (may, after) = by history (earlier_in kept) agrees.core in
     (may, record { number = number ∙ agrees.number; carries = carries ∙ agrees.carries; core = after })
 
-pub entered-by : (old new : Epochs) (client entry : ℕ) (reply : Reply) → RepliesByHistory old (EnterEvent client entry) reply new → AnswersCommandByHistory old (Enter client entry) (Replied reply) new
+pub entered-by : (old new : Epochs) (client entry : ℕ) (reply : Reply) → RepliesByHistory old (EnterEvent client entry) reply new
+    → AnswersCommandByHistory old (Enter client entry) (Replied reply) new
 entered-by old new client entry reply by turns history None agrees = by turns history None agrees
 entered-by old new client entry reply by turns history (Some earlier) agrees = by turns history (Some earlier) agrees
 
-pub stepped-by : (old new : Epochs) (client : ℕ) (reply : Reply) → RepliesByHistory old (StepEvent client) reply new → AnswersCommandByHistory old (Step client) (Replied reply) new
+pub stepped-by : (old new : Epochs) (client : ℕ) (reply : Reply) → RepliesByHistory old (StepEvent client) reply new
+    → AnswersCommandByHistory old (Step client) (Replied reply) new
 stepped-by old new client reply by turns history None agrees = by turns history None agrees
 stepped-by old new client reply by turns history (Some earlier) agrees = by turns history (Some earlier) agrees

@@ -12,7 +12,8 @@ NeverRises x = (i j : ℕ) → i < j → j < length x → get_or x j 0 ≤ get_o
 -- it is where each entry is at least the next
 next-to-later : (x : List ℕ) → ((i : ℕ) → i + 1 < length x → get_or x (i + 1) 0 ≤ get_or x i 0) → NeverRises x
 next-to-later x next i zero l m = omega arith
-next-to-later x next i (suc j) l m = elim (eq-or-lt_of_le before) [ inl e ↦ omega (arith, here, ap (λ k. get_or x k 0) e) | inr k ↦ omega (arith, here, next-to-later x next i j k (omega arith)) ]
+next-to-later x next i (suc j) l m = elim (eq-or-lt_of_le before)
+    [ inl e ↦ omega (arith, here, ap (λ k. get_or x k 0) e) | inr k ↦ omega (arith, here, next-to-later x next i j k (omega arith)) ]
   where
     before : i ≤ j
     before = omega arith
@@ -21,9 +22,12 @@ next-to-later x next i (suc j) l m = elim (eq-or-lt_of_le before) [ inl e ↦ om
     here = let same : suc j ≡ j + 1 = omega arith in omega (arith, next j (omega arith), ap (λ k. get_or x k 0) same)
 
 -- so tests of each entry and the next decide it
-pub never_rises-by_tests : (x : List ℕ) (b : Bool) → IsAllAdjacentAnswer (λ earlier later r. r ≡ nat_le later earlier) x b → IsTrue b ↔ NeverRises x
-never_rises-by_tests x true h =
-    (λ t. next-to-later x (λ i l. let passed : true ≡ nat_le (get_or x (i + 1) 0) (get_or x i 0) = h i 0 l in grind (arith, nat_tests)), λ never. grind (arith, nat_tests))
+pub never_rises-by_tests : (x : List ℕ) (b : Bool) → IsAllAdjacentAnswer (λ earlier later r. r ≡ nat_le later earlier) x b
+    → IsTrue b ↔ NeverRises x
+never_rises-by_tests x true h = (
+  λ t. next-to-later x (λ i l. let passed : true ≡ nat_le (get_or x (i + 1) 0) (get_or x i 0) = h i 0 l in grind (arith, nat_tests)),
+  λ never. grind (arith, nat_tests),
+)
 never_rises-by_tests x false h = (
   λ t. grind (arith, nat_tests),
   λ never.

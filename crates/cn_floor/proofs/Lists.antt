@@ -31,20 +31,24 @@ module _ (lists : List (List (ℕ × ℕ))) (make : ℕ → List (ℕ × ℕ)) w
   made_at u l = get_or-map-range_with_len make 0 (length lists) u u [] l (omega arith)
 
   pub made-beyond : (u : ℕ) → length lists ≤ u → get_or (map make (range_with_len 0 (length lists))) u [] ≡ []
-  made-beyond u l = get_or_past (map make (range_with_len 0 (length lists))) u [] (omega (arith, length-map-range_with_len make 0 (length lists)))
+  made-beyond u l = get_or_past (map make (range_with_len 0 (length lists))) u []
+      (omega (arith, length-map-range_with_len make 0 (length lists)))
 
   -- the lists of another yard are these where they are so on each wire
-  pub made : (news : List (List (ℕ × ℕ))) → length news ≡ length lists → ((u : ℕ) → get_or news u [] ≡ make u) → news ≡ map make (range_with_len 0 (length lists))
+  pub made : (news : List (List (ℕ × ℕ))) → length news ≡ length lists → ((u : ℕ) → get_or news u [] ≡ make u)
+      → news ≡ map make (range_with_len 0 (length lists))
   made news long each =
       fill_by_all make news (length lists) [] long (λ k h. each k)
 
 -- who comes is put last on a wire
 pub weigh-come : (lists : List (List (ℕ × ℕ))) (token client wire : ℕ) → wire < length lists → (u : ℕ) (f : ℕ × ℕ → ℕ)
-    → sum_by f (get_or (map (λ x. get_or lists x [] ++ last_on token client wire x) (range_with_len 0 (length lists))) u []) ≡ sum_by f (get_or lists u []) + when (eqb wire u) (f (token, client))
+    → sum_by f (get_or (map (λ x. get_or lists x [] ++ last_on token client wire x) (range_with_len 0 (length lists))) u [])
+    ≡ sum_by f (get_or lists u []) + when (eqb wire u) (f (token, client))
 weigh-come lists token client wire inside u f =
     let make : ℕ → List (ℕ × ℕ) = λ x. get_or lists x [] ++ last_on token client wire x in
     elim (cases_lt u (length lists)) [
-      | inl l ↦ ap (λ es. sum_by f es) (made_at lists make u l) ∙ sum_by-append f (get_or lists u []) (last_on token client wire u) ∙ omega (arith, last_on-sum token client wire u f)
+      | inl l ↦ ap (λ es. sum_by f es) (made_at lists make u l) ∙ sum_by-append f (get_or lists u []) (last_on token client wire u)
+          ∙ omega (arith, last_on-sum token client wire u f)
       | inr l ↦ rw (made-beyond lists make u l, get_or_past lists u [] l, ne_eqb wire u (λ e. omega arith)) refl
     ]
 
@@ -53,16 +57,24 @@ abbrev pub lists_after : ℕ → (ℕ → List (ℕ × ℕ)) → List (List (ℕ
 lists_after token more lists = map (λ u. without token (get_or lists u []) ++ more u) (range_with_len 0 (length lists))
 
 -- who goes to a wire, which is among these, leaves the other
-pub weigh-pass : (lists : List (List (ℕ × ℕ))) (token client wire to : ℕ) → IsThere lists token client wire → to < length lists → (u : ℕ) (f : ℕ × ℕ → ℕ)
-    → sum_by f (get_or (lists_after token (last_on token client to) lists) u []) + when (eqb wire u) (f (token, client)) ≡ sum_by f (get_or lists u []) + when (eqb to u) (f (token, client))
+pub weigh-pass : (lists : List (List (ℕ × ℕ))) (token client wire to : ℕ) → IsThere lists token client wire → to < length lists
+    → (u : ℕ) (f : ℕ × ℕ → ℕ)
+    → sum_by f (get_or (lists_after token (last_on token client to) lists) u []) + when (eqb wire u) (f (token, client))
+    ≡ sum_by f (get_or lists u []) + when (eqb to u) (f (token, client))
 weigh-pass lists token client wire to is inside u f =
     let make : ℕ → List (ℕ × ℕ) = λ x. without token (get_or lists x []) ++ last_on token client to x in
     elim (cases_lt u (length lists)) [
       | inl l ↦
-          let at : sum_by f (get_or (map make (range_with_len 0 (length lists))) u []) ≡ sum_by f (make u) = ap (λ es. sum_by f es) (made_at lists make u l) in
+          let at : sum_by f (get_or (map make (range_with_len 0 (length lists))) u []) ≡ sum_by f (make u) =
+          ap (λ es. sum_by f es) (made_at lists make u l) in
           let parts = sum_by-append f (without token (get_or lists u [])) (last_on token client to u) in
           omega (arith, last_on-sum token client to u f, is.less u f)
-      | inr l ↦ rw (made-beyond lists make u l, get_or_past lists u [] l, ne_eqb wire u (λ e. omega (arith, is.inside)), ne_eqb to u (λ e. omega arith)) refl
+      | inr l ↦ rw (
+        made-beyond lists make u l,
+        get_or_past lists u [] l,
+        ne_eqb wire u (λ e. omega (arith, is.inside)),
+        ne_eqb to u (λ e. omega arith),
+      ) refl
     ]
 
 -- who leaves is on no wire
@@ -72,7 +84,8 @@ weigh-leave lists token client wire is u f =
     let make : ℕ → List (ℕ × ℕ) = λ x. without token (get_or lists x []) ++ [] in
     elim (cases_lt u (length lists)) [
       | inl l ↦
-          let at : sum_by f (get_or (map make (range_with_len 0 (length lists))) u []) ≡ sum_by f (make u) = ap (λ es. sum_by f es) (made_at lists make u l) in
+          let at : sum_by f (get_or (map make (range_with_len 0 (length lists))) u []) ≡ sum_by f (make u) =
+          ap (λ es. sum_by f es) (made_at lists make u l) in
           let parts = sum_by-append f (without token (get_or lists u [])) [] in
           omega (arith, is.less u f)
       | inr l ↦ rw (made-beyond lists make u l, get_or_past lists u [] l, ne_eqb wire u (λ e. omega (arith, is.inside))) refl

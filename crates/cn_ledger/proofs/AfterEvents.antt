@@ -20,7 +20,10 @@ same-end (Exit i) (Balancer b) e = absurd (cc)
 same-end (Exit i) (Exit j) e = ap Exit (sym (eqb-true j i e))
 
 pub eqb-sym : (a b : ℕ) → eqb a b ≡ eqb b a
-eqb-sym a b = elim (cases_eq a b) [ inl e ↦ eq-eqb a b e ∙ sym (eq-eqb b a (sym e)) | inr n ↦ ne_eqb a b n ∙ sym (ne_eqb b a (λ e. n (sym e))) ]
+eqb-sym a b = elim (cases_eq a b) [
+  | inl e ↦ eq-eqb a b e ∙ sym (eq-eqb b a (sym e))
+  | inr n ↦ ne_eqb a b n ∙ sym (ne_eqb b a (λ e. n (sym e)))
+]
 
 pub is_end-sym : (a b : End) → is_end a b ≡ is_end b a
 is_end-sym (Balancer b) (Balancer c) = eqb-sym c b
@@ -30,12 +33,15 @@ is_end-sym (Exit i) (Exit j) = eqb-sym j i
 
 -- ---- the counts and numbers of a client that goes
 
-pub count-from : (t : Table) (old new : Ledger) (c u : ℕ) (end : End) (to : ℕ → ℕ) → Goes t old new c u end to → (other : End) → new.count other ≡ old.count other + sum_at t other (one_at u)
+pub count-from : (t : Table) (old new : Ledger) (c u : ℕ) (end : End) (to : ℕ → ℕ) → Goes t old new c u end to → (other : End)
+    → new.count other ≡ old.count other + sum_at t other (one_at u)
 count-from t old new c u end to ev other =
     ev.count other ∙ ap (λ (k : ℕ). old.count other + k)
-    (ap (λ q. cond q 1 0) (is_end-sym end other) ∙ ap (λ e. cond (is_end other e) 1 0) (sym ev.ends) ∙ sym (total-where-point (is_end other) t.ends (Balancer 0) u ev.inside))
+    (ap (λ q. cond q 1 0) (is_end-sym end other) ∙ ap (λ e. cond (is_end other e) 1 0) (sym ev.ends)
+    ∙ sym (total-where-point (is_end other) t.ends (Balancer 0) u ev.inside))
 
-once-more : (here : Bool) (k n c : ℕ) → (here ≡ true → c ≡ n) → once_below (c + cond here 1 0) k ≡ once_below c k + cond (here && eqb n k) 1 0
+once-more : (here : Bool) (k n c : ℕ) → (here ≡ true → c ≡ n)
+    → once_below (c + cond here 1 0) k ≡ once_below c k + cond (here && eqb n k) 1 0
 once-more false k n c h = ap (λ (m : ℕ). once_below m k) (add-zero c) ∙ sym (add-zero (once_below c k))
 once-more true k n c h = let e = h refl in let next : n + 1 ≡ suc n = omega arith in rw (e, next) (once-next n k)
 
@@ -43,7 +49,8 @@ pub numbered-after : (t : Table) (old new : Ledger) (c u : ℕ) (end : End) (to 
     → old.given other n ≡ once_below (old.count other) n → new.given other n ≡ once_below (new.count other) n
 numbered-after t old new c u end to ev other n was =
     let more = once-more (is_end end other) n (old.count end) (old.count other) (λ e. ap old.count (sym (same-end end other e))) in
-    let now : once_below (new.count other) n ≡ once_below (old.count other + cond (is_end end other) 1 0) n = ap (λ (m : ℕ). once_below m n) (ev.count other) in
+    let now : once_below (new.count other) n ≡ once_below (old.count other + cond (is_end end other) 1 0) n =
+    ap (λ (m : ℕ). once_below m n) (ev.count other) in
     omega (arith, ev.given other n)
 
 -- ---- the grants
@@ -66,14 +73,18 @@ once-leave c d i j n v a b = rw (eqb-sym j i) (ands (eqb c d) (eqb i j) (eqb n v
     ands true true true false = omega arith
     ands true true true true = omega arith
 
-pub distinct-leave : (c d e i j n v a b : ℕ) → d ≢ e → cond (eqb c d && (eqb i j && (eqb n v && eqb a b))) 1 0 + cond (eqb c e && (eqb i j && (eqb n v && eqb a b))) 1 0 ≤ cond (eqb j i && eqb n v) 1 0
+pub distinct-leave : (c d e i j n v a b : ℕ) → d ≢ e
+    → cond (eqb c d && (eqb i j && (eqb n v && eqb a b))) 1 0 + cond (eqb c e && (eqb i j && (eqb n v && eqb a b))) 1 0
+    ≤ cond (eqb j i && eqb n v) 1 0
 distinct-leave c d e i j n v a b differ =
     elim (cases_eq c d) [
       | inl q ↦
-          let none : ◌≡◌ {A = ℕ} (cond (eqb c e && (eqb i j && (eqb n v && eqb a b))) 1 0) 0 = ap {B = ℕ} (λ z. cond (z && (eqb i j && (eqb n v && eqb a b))) 1 0) (ne_eqb c e (λ r. differ (sym q ∙ r))) in
+          let none : ◌≡◌ {A = ℕ} (cond (eqb c e && (eqb i j && (eqb n v && eqb a b))) 1 0) 0 =
+          ap {B = ℕ} (λ z. cond (z && (eqb i j && (eqb n v && eqb a b))) 1 0) (ne_eqb c e (λ r. differ (sym q ∙ r))) in
           omega (arith, once-leave c d i j n v a b)
       | inr q ↦
-          let none : ◌≡◌ {A = ℕ} (cond (eqb c d && (eqb i j && (eqb n v && eqb a b))) 1 0) 0 = ap {B = ℕ} (λ z. cond (z && (eqb i j && (eqb n v && eqb a b))) 1 0) (ne_eqb c d q) in
+          let none : ◌≡◌ {A = ℕ} (cond (eqb c d && (eqb i j && (eqb n v && eqb a b))) 1 0) 0 =
+          ap {B = ℕ} (λ z. cond (z && (eqb i j && (eqb n v && eqb a b))) 1 0) (ne_eqb c d q) in
           omega (arith, once-leave c e i j n v a b)
     ]
 
@@ -96,20 +107,24 @@ once-there u w c d = grind (arith, nat_tests)
 abbrev AddsUpTo : (ℕ → ℕ) → ℕ → Type 0
 AddsUpTo f m = (n : ℕ) × ((k : ℕ) → n ≤ k → sum_below k f ≡ m)
 
-pub clients-enter : (t : Table) (old new : Ledger) (c u : ℕ) → Enters t old new c u → (w : ℕ) → AddsUpTo (old.standing w) (old.on w) → AddsUpTo (new.standing w) (new.on w)
+pub clients-enter : (t : Table) (old new : Ledger) (c u : ℕ) → Enters t old new c u → (w : ℕ) → AddsUpTo (old.standing w) (old.on w)
+    → AddsUpTo (new.standing w) (new.on w)
 clients-enter t old new c u ev w (n, sums) = (
   n + suc c,
   λ k h.
-      let more = one_more-sum c (one_at u w) k (new.standing w) (old.standing w) (omega arith) (λ d. omega (arith, ev.standing w d, once-there u w c d)) in
+      let more = one_more-sum c (one_at u w) k (new.standing w) (old.standing w) (omega arith)
+      (λ d. omega (arith, ev.standing w d, once-there u w c d)) in
       omega (arith, sums k (omega arith), ev.on w),
 )
 
-pub clients-go : (t : Table) (old new : Ledger) (c u : ℕ) (end : End) (to : ℕ → ℕ) → Goes t old new c u end to → (w : ℕ) → AddsUpTo (old.standing w) (old.on w) → AddsUpTo (new.standing w) (new.on w)
+pub clients-go : (t : Table) (old new : Ledger) (c u : ℕ) (end : End) (to : ℕ → ℕ) → Goes t old new c u end to → (w : ℕ)
+    → AddsUpTo (old.standing w) (old.on w) → AddsUpTo (new.standing w) (new.on w)
 clients-go t old new c u end to ev w (n, sums) = (
   n + suc c,
   λ k h.
       let whole = λ (d : ℕ). old.standing w d + when (eqb c d) (to w) in
-      let less = one_more-sum c (one_at u w) k whole (new.standing w) (omega arith) (λ d. omega (arith, ev.standing w d, once-there u w c d)) in
+      let less = one_more-sum c (one_at u w) k whole (new.standing w) (omega arith)
+      (λ d. omega (arith, ev.standing w d, once-there u w c d)) in
       let more = one_more-sum c (to w) k whole (old.standing w) (omega arith) (λ d. refl) in
       omega (arith, sums k (omega arith), ev.on w),
 )

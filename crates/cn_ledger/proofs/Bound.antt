@@ -30,9 +30,11 @@ two_more P m h p q u k =
       | inr l ↦ elim (cases_eq u m) [ inl e ↦ rw e p | inr d ↦ let e : u ≡ m + 1 = omega arith in rw e q ]
     ]
 
-module _ (t : Table) (w : IsWellFormed t) (l : Ledger) (sound : IsSound t l) (f : ℕ → ℕ) (flow : IsFullFlow t f) (inputs : Agree t.entries f l.entered) where
+module _ (t : Table) (w : IsWellFormed t) (l : Ledger) (sound : IsSound t l) (f : ℕ → ℕ) (flow : IsFullFlow t f)
+    (inputs : Agree t.entries f l.entered) where
   -- a balancer has passed no more than the flow, if the wires before it have had no more put on them
-  passed-bound : (b : ℕ) → b < t.balancers → ((u : ℕ) → u < t.entries + 2 * b → put t l u ≤ f u) → l.count (Balancer b) ≤ sum_at t (Balancer b) f
+  passed-bound : (b : ℕ) → b < t.balancers → ((u : ℕ) → u < t.entries + 2 * b → put t l u ≤ f u)
+      → l.count (Balancer b) ≤ sum_at t (Balancer b) f
   passed-bound b h before =
       let s = sound.balanced (Balancer b) h in
       let m = total-where-mono (is_end (Balancer b)) t.ends (Balancer 0) (put t l) f (λ u j q. before u (older t w b u j q)) in
@@ -48,8 +50,10 @@ module _ (t : Table) (w : IsWellFormed t) (l : Ledger) (sound : IsSound t l) (f 
       let here = flow b (omega arith) in
       let m : t.entries + 2 * suc b ≡ (t.entries + 2 * b) + 2 = omega arith in
       rw m (two_more (λ u. put t l u ≤ f u) (t.entries + 2 * b) before
-      (let q = rw add-zero at (put-output t l b 0 (omega arith)) in let k = half-mono (l.count (Balancer b)) (sum_at t (Balancer b) f) 0 c in omega (arith, here.0))
-      (let q = put-output t l b 1 (omega arith) in let k = half-mono (l.count (Balancer b)) (sum_at t (Balancer b) f) 1 c in omega (arith, here.1)))
+      (let q = rw add-zero at (put-output t l b 0 (omega arith)) in
+      let k = half-mono (l.count (Balancer b)) (sum_at t (Balancer b) f) 0 c in omega (arith, here.0))
+      (let q = put-output t l b 1 (omega arith) in let k = half-mono (l.count (Balancer b)) (sum_at t (Balancer b) f) 1 c in
+      omega (arith, here.1)))
 
   -- no count is more than what the flow brings there
   pub count-at_most : (end : End) → Stands t end → l.count end ≤ sum_at t end f
@@ -64,7 +68,8 @@ module _ (t : Table) (w : IsWellFormed t) (l : Ledger) (sound : IsSound t l) (qu
   quiet-count : (end : End) → Stands t end → l.count end ≡ sum_at t end (put t l)
   quiet-count end h =
       let s = sound.balanced end h in
-      let none = total-where-agree (is_end end) t.ends (Balancer 0) l.on (λ _. 0) (λ u j q. quiet u j) ∙ total-where-zero (is_end end) t.ends in
+      let none = total-where-agree (is_end end) t.ends (Balancer 0) l.on (λ _. 0) (λ u j q. quiet u j)
+      ∙ total-where-zero (is_end end) t.ends in
       omega arith
 
   pub quiet-flow : IsFullFlow t (put t l)
@@ -86,23 +91,29 @@ module _ (t : Table) (w : IsWellFormed t) (l : Ledger) (sound : IsSound t l) (qu
 sum-row : (f : ℕ → ℕ) (n : ℕ) → sum (map f (range_with_len 0 n)) ≡ sum_below n f
 unfolding sum_below
 sum-row f zero = refl
-sum-row f (suc n) = rw (ap (λ (k : ℕ). sum (map f (range_with_len 0 k))) (suc-is n) ∙ sum_by-map-range_with_len_more (λ (y : ℕ). y) f 0 n n (omega arith)) (omega (arith, sum-row f n))
+sum-row f (suc n) = rw (ap (λ (k : ℕ). sum (map f (range_with_len 0 k))) (suc-is n)
+    ∙ sum_by-map-range_with_len_more (λ (y : ℕ). y) f 0 n n (omega arith)) (omega (arith, sum-row f n))
   where
     suc-is : (n : ℕ) → suc n ≡ n + 1
     suc-is n = omega arith
 
 -- each full flow brings each exit its share of the inputs
-pub exit-shares : (t : Table) → IsWellFormed t → Counts t → (f : ℕ → ℕ) → IsFullFlow t f → (i : ℕ) → i < t.width → sum_at t (Exit i) f ≡ share (sum_below t.entries f) t.width i
+pub exit-shares : (t : Table) → IsWellFormed t → Counts t → (f : ℕ → ℕ) → IsFullFlow t f → (i : ℕ) → i < t.width
+    → sum_at t (Exit i) f ≡ share (sum_below t.entries f) t.width i
 exit-shares t w counts f flow i h =
     let row : List ℕ = map (λ j. sum_at t (Exit j) f) (range_with_len 0 t.width) in
     let at : get_or row i 0 ≡ sum_at t (Exit i) f = get_or-map-range_with_len (λ j. sum_at t (Exit j) f) 0 t.width i i 0 h (omega arith) in
     let long : length row ≡ t.width = length-map-range_with_len (λ j. sum_at t (Exit j) f) 0 t.width in
     let all : sum row ≡ sum_below t.entries f = sum-row (λ j. sum_at t (Exit j) f) t.width ∙ full-flow-sum t w f flow in
-    let is : row ≡ shares (sum_below t.entries f) t.width = row_is-shares row (counts f flow) ∙ ap (λ n. shares n (length row)) all ∙ ap (shares (sum_below t.entries f)) long in
+    let is : row ≡ shares (sum_below t.entries f) t.width =
+    row_is-shares row (counts f flow) ∙ ap (λ n. shares n (length row)) all ∙ ap (shares (sum_below t.entries f)) long in
     sym at ∙ ap (λ (xs : List ℕ). get_or xs i 0) is ∙ get-or-shares (sum_below t.entries f) t.width i h
 
 once-given : (c v : ℕ) → 1 ≤ once_below c v → v < c
-once-given c v h = elim (cases_lt v c) [ inl l ↦ l | inr l ↦ absurd (let z = le-ltb v c l in omega (arith, ap {B = ℕ} (λ b. cond b 1 0) z)) ]
+once-given c v h = elim (cases_lt v c) [
+  | inl l ↦ l
+  | inr l ↦ absurd (let z = le-ltb v c l in omega (arith, ap {B = ℕ} (λ b. cond b 1 0) z))
+]
 
 -- ---- the laws
 
@@ -118,14 +129,17 @@ bounded t w counts l sound =
           rw e (visit i v h (let k = sound.once c i v name in omega arith) f flow inputs);
     }
   where
-    count : (i : ℕ) → i < t.width → (f : ℕ → ℕ) → IsFullFlow t f → Agree t.entries f l.entered → l.count (Exit i) ≤ share (all_entered t l) t.width i
+    count : (i : ℕ) → i < t.width → (f : ℕ → ℕ) → IsFullFlow t f → Agree t.entries f l.entered
+        → l.count (Exit i) ≤ share (all_entered t l) t.width i
     count i h f flow inputs =
         let most = count-at_most t w l sound f flow inputs (Exit i) h in
         let same : sum_below t.entries f ≡ all_entered t l = sum-below-same t.entries f l.entered inputs in
-        let even : sum_at t (Exit i) f ≡ share (all_entered t l) t.width i = exit-shares t w counts f flow i h ∙ ap (λ n. share n t.width i) same in
+        let even : sum_at t (Exit i) f ≡ share (all_entered t l) t.width i =
+        exit-shares t w counts f flow i h ∙ ap (λ n. share n t.width i) same in
         rw even at most
 
-    visit : (i v : ℕ) → i < t.width → 1 ≤ l.given (Exit i) v → (f : ℕ → ℕ) → IsFullFlow t f → Agree t.entries f l.entered → name_of t.width i v < all_entered t l
+    visit : (i v : ℕ) → i < t.width → 1 ≤ l.given (Exit i) v → (f : ℕ → ℕ) → IsFullFlow t f → Agree t.entries f l.entered
+        → name_of t.width i v < all_entered t l
     visit i v h g f flow inputs =
         let most = count i h f flow inputs in
         let under : v < l.count (Exit i) = once-given (l.count (Exit i)) v (rw (sound.numbered (Exit i) v h) at g) in
@@ -146,17 +160,21 @@ tight t w counts l sound quiet =
       passes = λ f g inputs b h. quiet-same t w l sound quiet f g inputs (Balancer b) h;
     }
   where
-    count : (i : ℕ) → i < t.width → IsFullFlow t (put t l) → sum_below t.entries (put t l) ≡ all_entered t l → l.count (Exit i) ≡ share (all_entered t l) t.width i
-    count i h flow same = quiet-count t w l sound quiet (Exit i) h ∙ exit-shares t w counts (put t l) flow i h ∙ ap (λ n. share n t.width i) same
+    count : (i : ℕ) → i < t.width → IsFullFlow t (put t l) → sum_below t.entries (put t l) ≡ all_entered t l
+        → l.count (Exit i) ≡ share (all_entered t l) t.width i
+    count i h flow same = quiet-count t w l sound quiet (Exit i) h ∙ exit-shares t w counts (put t l) flow i h
+        ∙ ap (λ n. share n t.width i) same
 
     same-once : (c v m n : ℕ) → (v < c → n < m) → (n < m → v < c) → once_below c v ≡ once_below m n
     same-once c v m n to from =
         elim (cases_lt v c) [
           | inl k ↦ ap (λ b. cond b 1 0) (lt-ltb v c k ∙ sym (lt-ltb n m (to k)))
-          | inr k ↦ ap (λ b. cond b 1 0) (le-ltb v c k ∙ sym (le-ltb n m (elim (cases_lt n m) [ inl j ↦ absurd (let q = from j in omega arith) | inr j ↦ j ])))
+          | inr k ↦ ap (λ b. cond b 1 0) (le-ltb v c k
+              ∙ sym (le-ltb n m (elim (cases_lt n m) [ inl j ↦ absurd (let q = from j in omega arith) | inr j ↦ j ])))
         ]
 
-    given : (name : ℕ) → IsFullFlow t (put t l) → sum_below t.entries (put t l) ≡ all_entered t l → times_given t l name ≡ once_below (all_entered t l) name
+    given : (name : ℕ) → IsFullFlow t (put t l) → sum_below t.entries (put t l) ≡ all_entered t l
+        → times_given t l name ≡ once_below (all_entered t l) name
     given name flow same =
         let (least, most) = w.width in
         let h : name % t.width < t.width = mod_below name t.width (omega arith) in
@@ -179,7 +197,8 @@ tight t w counts l sound quiet =
           c,
           λ d. elim (cases_eq c d) [
             | inl e ↦
-                let least_one : 1 ≤ l.granted d (name % t.width) (name / t.width) name = subst (λ x. 1 ≤ l.granted x (name % t.width) (name / t.width) name) e (rw is at g) in
+                let least_one : 1 ≤ l.granted d (name % t.width) (name / t.width) name =
+                subst (λ x. 1 ≤ l.granted x (name % t.width) (name / t.width) name) e (rw is at g) in
                 let yes : ◌≡◌ {A = ℕ} (cond (eqb c d) 1 0) 1 = ap {B = ℕ} (λ b. cond b 1 0) (eq-eqb c d e) in
                 omega (arith, sound.once d (name % t.width) (name / t.width) name)
             | inr n ↦
@@ -198,7 +217,8 @@ given-most t l sound i v h = rw (sound.numbered (Exit i) v h) (once-most (l.coun
     once-most c = elim (ltb v c) as (λ q. cond q 1 0 ≤ 1) [ true ↦ omega arith | false ↦ omega arith ]
 
 -- two grants of one name are one grant
-pub names-differ : (t : Table) (l : Ledger) → IsSound t l → (c d i j u v a b : ℕ) → 1 ≤ l.granted c i u a → 1 ≤ l.granted d j v b → a ≡ b → (c ≡ d) × (i ≡ j) × (u ≡ v)
+pub names-differ : (t : Table) (l : Ledger) → IsSound t l → (c d i j u v a b : ℕ) → 1 ≤ l.granted c i u a → 1 ≤ l.granted d j v b → a ≡ b
+    → (c ≡ d) × (i ≡ j) × (u ≡ v)
 names-differ t l sound c d i j u v a b g h e =
     let (li, na) = sound.named c i u a g in
     let (lj, nb) = sound.named d j v b h in

@@ -42,4 +42,12 @@ sound-nothing t l none = record {
 }
 
 pub sound-empty : (t : Table) → IsSound t empty_ledger
-sound-empty t = sound-nothing t empty_ledger (record { entered = λ e. refl; count = λ end. refl; on = λ u. refl; standing = λ u c. refl; given = λ end n. refl; granted = λ c i v name. refl })
+sound-empty t = sound-nothing t empty_ledger
+    (record {
+      entered = λ e. refl;
+      count = λ end. refl;
+      on = λ u. refl;
+      standing = λ u c. refl;
+      given = λ end n. refl;
+      granted = λ c i v name. refl;
+    })

@@ -19,12 +19,19 @@ pub sound-enters : (t : Table) (old new : Ledger) (c u : ℕ) → Enters t old n
 sound-enters t old new c u ev sound = record {
   balanced = λ end h.
       balanced-after t end old.on new.on (put t old) (put t new) (λ _. 0) (one_at u) (old.count end) (new.count end)
-      (λ w k. omega (arith, ev.on w)) (λ w k. put-enter t old new c u ev w) (omega (arith, ev.count end, total-where-zero (is_end end) t.ends)) (sound.balanced end h);
+      (λ w k. omega (arith, ev.on w)) (λ w k. put-enter t old new c u ev w)
+      (omega (arith, ev.count end, total-where-zero (is_end end) t.ends)) (sound.balanced end h);
   clients = λ w. clients-enter t old new c u ev w (sound.clients w);
   numbered = λ end n h. ev.given end n ∙ sound.numbered end n h ∙ ap (λ m. once_below m n) (sym (ev.count end));
   named = λ d i v name g. sound.named d i v name (rw (ev.granted d i v name) at g);
   once = λ d i v name. omega (arith, sound.once d i v name, ev.granted d i v name, ev.given (Exit i) v);
-  distinct = λ d e i v differ. omega (arith, sound.distinct d e i v differ, ev.granted d i v (name_of t.width i v), ev.granted e i v (name_of t.width i v), ev.given (Exit i) v);
+  distinct = λ d e i v differ. omega (
+    arith,
+    sound.distinct d e i v differ,
+    ev.granted d i v (name_of t.width i v),
+    ev.granted e i v (name_of t.width i v),
+    ev.given (Exit i) v,
+  );
   owned = λ i v h g.
       let (d, k) = sound.owned i v h (omega (arith, ev.given (Exit i) v)) in
       (d, omega (arith, ev.granted d i v (name_of t.width i v)));
@@ -36,12 +43,19 @@ sound-passes t old new c u b ev sound =
     record {
       balanced = λ end h.
           balanced-after t end old.on new.on (put t old) (put t new) (one_at u) to (old.count end) (new.count end)
-          (λ w k. ev.goes.on w) (λ w k. put-pass t old new c u b ev w) (count-from t old new c u (Balancer b) to ev.goes end) (sound.balanced end h);
+          (λ w k. ev.goes.on w) (λ w k. put-pass t old new c u b ev w) (count-from t old new c u (Balancer b) to ev.goes end)
+          (sound.balanced end h);
       clients = λ w. clients-go t old new c u (Balancer b) to ev.goes w (sound.clients w);
       numbered = λ end n h. numbered-after t old new c u (Balancer b) to ev.goes end n (sound.numbered end n h);
       named = λ d i v name g. sound.named d i v name (rw (ev.granted d i v name) at g);
       once = λ d i v name. omega (arith, sound.once d i v name, ev.granted d i v name, ev.goes.given (Exit i) v);
-      distinct = λ d e i v differ. omega (arith, sound.distinct d e i v differ, ev.granted d i v (name_of t.width i v), ev.granted e i v (name_of t.width i v), ev.goes.given (Exit i) v);
+      distinct = λ d e i v differ. omega (
+        arith,
+        sound.distinct d e i v differ,
+        ev.granted d i v (name_of t.width i v),
+        ev.granted e i v (name_of t.width i v),
+        ev.goes.given (Exit i) v,
+      );
       owned = λ i v h g.
           let (d, k) = sound.owned i v h (omega (arith, ev.goes.given (Exit i) v)) in
           (d, omega (arith, ev.granted d i v (name_of t.width i v)));
@@ -53,14 +67,16 @@ sound-leaves t w old new c u i ev sound =
     record {
       balanced = λ end h.
           balanced-after t end old.on new.on (put t old) (put t new) (one_at u) (λ _. 0) (old.count end) (new.count end)
-          (λ x k. ev.goes.on x) (λ x k. omega (arith, put-leave t old new c u i ev x)) (count-from t old new c u (Exit i) (λ _. 0) ev.goes end) (sound.balanced end h);
+          (λ x k. ev.goes.on x) (λ x k. omega (arith, put-leave t old new c u i ev x))
+          (count-from t old new c u (Exit i) (λ _. 0) ev.goes end) (sound.balanced end h);
       clients = λ w. clients-go t old new c u (Exit i) (λ _. 0) ev.goes w (sound.clients w);
       numbered = λ end m h. numbered-after t old new c u (Exit i) (λ _. 0) ev.goes end m (sound.numbered end m h);
       named = λ d j v name g.
           elim (cases_lt 0 (old.granted d j v name)) [
             | inl k ↦ sound.named d j v name k
             | inr k ↦
-                let one : 1 ≤ cond (eqb c d && (eqb i j && (eqb n v && eqb (name_of t.width i n) name))) 1 0 = omega (arith, ev.granted d j v name) in
+                let one : 1 ≤ cond (eqb c d && (eqb i j && (eqb n v && eqb (name_of t.width i n) name))) 1 0 =
+                omega (arith, ev.granted d j v name) in
                 let a = both (eqb c d) (eqb i j && (eqb n v && eqb (name_of t.width i n) name)) one in
                 let b = both (eqb i j) (eqb n v && eqb (name_of t.width i n) name) a.1 in
                 let z = both (eqb n v) (eqb (name_of t.width i n) name) b.1 in
@@ -70,7 +86,13 @@ sound-leaves t w old new c u i ev sound =
                 let there : Stands t (Exit i) = subst (Stands t) ev.goes.ends (w.stands u ev.goes.inside) in
                 (subst (λ x. x < t.width) ij there, sym nm ∙ ap (λ x. name_of t.width x n) ij ∙ ap (λ x. name_of t.width j x) nv)
           ];
-      once = λ d j v name. omega (arith, sound.once d j v name, ev.granted d j v name, ev.goes.given (Exit j) v, once-leave c d i j n v (name_of t.width i n) name);
+      once = λ d j v name. omega (
+        arith,
+        sound.once d j v name,
+        ev.granted d j v name,
+        ev.goes.given (Exit j) v,
+        once-leave c d i j n v (name_of t.width i n) name,
+      );
       distinct = λ d e j v differ.
           omega (
             arith,
@@ -91,7 +113,8 @@ sound-leaves t w old new c u i ev sound =
                 let ij : i ≡ j = sym (eqb-true j i a.0) in
                 let nv : n ≡ v = eqb-true n v (is-true (eqb n v) a.1) in
                 let now = ev.granted c j v (name_of t.width j v) in
-                let same : name_of t.width i n ≡ name_of t.width j v = ap (λ x. name_of t.width x n) ij ∙ ap (λ x. name_of t.width j x) nv in
+                let same : name_of t.width i n ≡ name_of t.width j v =
+                ap (λ x. name_of t.width x n) ij ∙ ap (λ x. name_of t.width j x) nv in
                 let grants = all-same c i j n v (name_of t.width i n) (name_of t.width j v) ij nv same in
                 (c, omega arith)
           ];
@@ -100,14 +123,16 @@ sound-leaves t w old new c u i ev sound =
 -- ---- where a client that goes stood
 
 -- a client that goes from a wire on which it is not put stood there
-goes-stood : (t : Table) (old new : Ledger) (c u : ℕ) (end : End) (to : ℕ → ℕ) → Goes t old new c u end to → to u ≡ 0 → (1 ≤ old.standing u c) × (1 ≤ old.on u)
+goes-stood : (t : Table) (old new : Ledger) (c u : ℕ) (end : End) (to : ℕ → ℕ) → Goes t old new c u end to → to u ≡ 0
+    → (1 ≤ old.standing u c) × (1 ≤ old.on u)
 goes-stood t old new c u end to ev none =
     let off : ◌≡◌ {A = ℕ} (cond (eqb u u && eqb c c) 1 0) 1 = rw (eq-eqb u u refl, eq-eqb c c refl) refl in
     let put : cond (eqb c c) (to u) 0 ≡ 0 = rw (eq-eqb c c refl) none in
     let one : one_at u u ≡ 1 = ap {B = ℕ} (λ q. cond q 1 0) (eq-eqb u u refl) in
     (omega (arith, ev.standing u c), omega (arith, ev.on u))
 
-pub passes-stood : (t : Table) → IsWellFormed t → (old new : Ledger) (c u b : ℕ) → Passes t old new c u b → (1 ≤ old.standing u c) × (1 ≤ old.on u)
+pub passes-stood : (t : Table) → IsWellFormed t → (old new : Ledger) (c u b : ℕ) → Passes t old new c u b
+    → (1 ≤ old.standing u c) × (1 ≤ old.on u)
 passes-stood t w old new c u b ev =
     let here : is_end (Balancer b) (end_of t u) ≡ true = ap (is_end (Balancer b)) ev.goes.ends ∙ eq-eqb b b refl in
     let first = older t w b u ev.goes.inside here in

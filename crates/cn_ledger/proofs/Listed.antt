@@ -12,7 +12,12 @@ use Rattle.cn_ledger.specs.Grants.{Grant, ListsGrants, is_grant}
 
 -- a grant is itself
 is-itself : (base : ℕ) (g : Grant) → is_grant base g.client g.exit g.visit (g.name + base) g ≡ true
-is-itself base g = rw (eq-eqb g.client g.client refl, eq-eqb g.exit g.exit refl, eq-eqb g.visit g.visit refl, eq-eqb (g.name + base) (g.name + base) refl) refl
+is-itself base g = rw (
+  eq-eqb g.client g.client refl,
+  eq-eqb g.exit g.exit refl,
+  eq-eqb g.visit g.visit refl,
+  eq-eqb (g.name + base) (g.name + base) refl,
+) refl
 
 sum-by-none : (gs : List Grant) → sum_by (λ _. 0) gs ≡ 0
 sum-by-none [] = refl
@@ -31,7 +36,8 @@ is-true false h = absurd (omega arith)
 nobody : Grant
 nobody = record { client = 0; exit = 0; visit = 0; name = 0 }
 
-module _ (t : Table) (old new : Ledger) (grants : List Grant) (k : ℕ) (was : IsTight t old) (is : IsTight t new) (more : all_entered t new ≡ all_entered t old + k) (lists : ListsGrants (all_entered t old) old new grants) where
+module _ (t : Table) (old new : Ledger) (grants : List Grant) (k : ℕ) (was : IsTight t old) (is : IsTight t new)
+    (more : all_entered t new ≡ all_entered t old + k) (lists : ListsGrants (all_entered t old) old new grants) where
   abbrev base : ℕ
   base = all_entered t old
 
@@ -39,8 +45,13 @@ module _ (t : Table) (old new : Ledger) (grants : List Grant) (k : ℕ) (was : I
   made : (j : ℕ) → j < length grants → let g : Grant = get_or grants j nobody in 1 ≤ new.granted g.client g.exit g.visit (g.name + base)
   made j h =
       let g : Grant = get_or grants j nobody in
-      let one : ◌≡◌ {A = ℕ} (cond (is_grant base g.client g.exit g.visit (g.name + base) g) 1 0) 1 = ap {B = ℕ} (λ b. cond b 1 0) (is-itself base g) in
-      omega (arith, get_or-le-sum_by (λ x. cond (is_grant base g.client g.exit g.visit (g.name + base) x) 1 0) grants j nobody h, lists g.client g.exit g.visit (g.name + base))
+      let one : ◌≡◌ {A = ℕ} (cond (is_grant base g.client g.exit g.visit (g.name + base) g) 1 0) 1 =
+      ap {B = ℕ} (λ b. cond b 1 0) (is-itself base g) in
+      omega (
+        arith,
+        get_or-le-sum_by (λ x. cond (is_grant base g.client g.exit g.visit (g.name + base) x) 1 0) grants j nobody h,
+        lists g.client g.exit g.visit (g.name + base),
+      )
 
   -- nobody has a name beyond the last
   beyond : (n : ℕ) → k ≤ n → count_by (λ g. eqb g.name n) grants ≡ 0
@@ -70,7 +81,8 @@ module _ (t : Table) (old new : Ledger) (grants : List Grant) (k : ℕ) (was : I
       ap {B = ℕ} (λ b. cond b 1 0) (elim (cases_eq g.name n) [
         | inr other ↦
             ne_eqb g.name n other
-            ∙ sym (ap (λ b. (eqb g.client c) && ((eqb g.exit i) && ((eqb g.visit v) && b))) (ne_eqb (g.name + base) name (λ e. other (omega arith))) ∙ none-last (eqb g.client c) (eqb g.exit i) (eqb g.visit v))
+            ∙ sym (ap (λ b. (eqb g.client c) && ((eqb g.exit i) && ((eqb g.visit v) && b)))
+            (ne_eqb (g.name + base) name (λ e. other (omega arith))) ∙ none-last (eqb g.client c) (eqb g.exit i) (eqb g.visit v))
         | inl e ↦
             let whole : g.name + base ≡ name = omega arith in
             let (low, exit, visit) = is.only g.client g.exit g.visit (g.name + base) once in
@@ -79,7 +91,12 @@ module _ (t : Table) (old new : Ledger) (grants : List Grant) (k : ℕ) (was : I
             let its = rw (at_exit, at_visit, whole) at once in
             let who : eqb c g.client ≡ true = is-true (eqb c g.client) (rw (held g.client) at its) in
             let holder : c ≡ g.client = eqb-true c g.client who in
-            eq-eqb g.name n e ∙ sym (rw (eq-eqb g.client c (sym holder), eq-eqb g.exit i at_exit, eq-eqb g.visit v at_visit, eq-eqb (g.name + base) name whole) refl)
+            eq-eqb g.name n e ∙ sym (rw (
+              eq-eqb g.client c (sym holder),
+              eq-eqb g.exit i at_exit,
+              eq-eqb g.visit v at_visit,
+              eq-eqb (g.name + base) name whole,
+            ) refl)
       ])) in
       omega (arith, held c, lists c i v name)
 

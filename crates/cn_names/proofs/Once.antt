@@ -8,16 +8,19 @@ use Rattle.std.specs.Map.{keys_of}
 use Rattle.cn_names.specs.declared.standing.Standing.{Standing}
 
 -- a client from which each client of the list differs
-absent : (client : ℕ) (names : List (ℕ × Standing)) → AllByRecursion (λ other. nat_eq client other ≡ false) (keys_of names) → count_by (λ e. nat_eq client e.0) names ≡ 0
+absent : (client : ℕ) (names : List (ℕ × Standing)) → AllByRecursion (λ other. nat_eq client other ≡ false) (keys_of names)
+    → count_by (λ e. nat_eq client e.0) names ≡ 0
 absent client [] differ = refl
 absent client (e ∷ names) differ =
-    sum_by-cons (λ (entry : ℕ × Standing). cond (nat_eq client entry.0) 1 0) e names ∙ rw differ.0 (omega (arith, absent client names differ.1))
+    sum_by-cons (λ (entry : ℕ × Standing). cond (nat_eq client entry.0) 1 0) e names
+    ∙ rw differ.0 (omega (arith, absent client names differ.1))
 
 pub once : (client : ℕ) (names : List (ℕ × Standing)) → IsDistinct nat_eq (keys_of names) → count_by (λ e. nat_eq client e.0) names ≤ 1
 once client [] distinct = omega arith
 once client (e ∷ names) distinct =
     rw (sum_by-cons (λ (entry : ℕ × Standing). cond (nat_eq client entry.0) 1 0) e names) (
     elim (cases_eq client e.0) [
-      | inl same ↦ rw same (rw (eq-eqb e.0 e.0 refl) (omega (arith, absent e.0 names (IsDistinct-head nat_eq e.0 (keys_of names) distinct))))
+      | inl same ↦ rw same (rw (eq-eqb e.0 e.0 refl)
+          (omega (arith, absent e.0 names (IsDistinct-head nat_eq e.0 (keys_of names) distinct))))
       | inr other ↦ rw (ne_eqb client e.0 other) (omega (arith, once client names (IsDistinct-tail nat_eq e.0 (keys_of names) distinct)))
     ])

@@ -10,38 +10,53 @@ use Rattle.cn_names.specs.Names.{IsWalking, is_walking, standing_of_client}
 use Rattle.cn_names.specs.Grants.{grants_in}
 
 -- a client from which each client of the list differs has no standing there
-stranger : (client : ℕ) (names : List (ℕ × Standing)) → AllByRecursion (λ other. nat_eq client other ≡ false) (keys_of names) → standing_of_client names client ≡ None
+stranger : (client : ℕ) (names : List (ℕ × Standing)) → AllByRecursion (λ other. nat_eq client other ≡ false) (keys_of names)
+    → standing_of_client names client ≡ None
 stranger client [] differ = refl
 stranger client (e ∷ names) differ = rw differ.0 (stranger client names differ.1)
 
 -- a client's standing stays where another client, which differs from all, comes before it
-behind : (other client : ℕ) (s : Standing) (names : List (ℕ × Standing)) (token : ℕ) → AllByRecursion (λ later. nat_eq client later ≡ false) (keys_of names) → standing_of_client names other ≡ Some (Walking token) → standing_of_client ((client, s) ∷ names) other ≡ Some (Walking token)
+behind : (other client : ℕ) (s : Standing) (names : List (ℕ × Standing)) (token : ℕ)
+    → AllByRecursion (λ later. nat_eq client later ≡ false) (keys_of names) → standing_of_client names other ≡ Some (Walking token)
+    → standing_of_client ((client, s) ∷ names) other ≡ Some (Walking token)
 behind other client s names token differ found =
     elim (cases_eq other client) [
-      | inl same ↦ let none = stranger client names differ in let here : standing_of_client names client ≡ Some (Walking token) = subst (λ c. standing_of_client names c ≡ Some (Walking token)) same found in absurd (cc)
+      | inl same ↦ let none = stranger client names differ in
+          let here : standing_of_client names client ≡ Some (Walking token) =
+          subst (λ c. standing_of_client names c ≡ Some (Walking token)) same found in absurd (cc)
       | inr unlike ↦ rw (ne_eqb other client unlike) found
     ]
 
-pub walking-from-any : (names : List (ℕ × Standing)) → IsDistinct nat_eq (keys_of names) → list_any is_walking (values_of names) ≡ true → (client : ℕ) × IsWalking names client
+pub walking-from-any : (names : List (ℕ × Standing)) → IsDistinct nat_eq (keys_of names) → list_any is_walking (values_of names) ≡ true
+    → (client : ℕ) × IsWalking names client
 walking-from-any [] distinct any = absurd (cc)
 walking-from-any ((client, Walking token) ∷ names) distinct any = (client, (token, rw (eq-eqb client client refl) refl))
 walking-from-any ((client, Holds name) ∷ names) distinct any =
-    let later = walking-from-any names (IsDistinct-tail nat_eq client (keys_of names) distinct) any in
-    (later.0, (later.1.0, behind later.0 client (Holds name) names later.1.0 (IsDistinct-head nat_eq client (keys_of names) distinct) later.1.1))
+    let later = walking-from-any names (IsDistinct-tail nat_eq client (keys_of names) distinct) any in (
+      later.0,
+      (
+        later.1.0,
+        behind later.0 client (Holds name) names later.1.0 (IsDistinct-head nat_eq client (keys_of names) distinct)
+            later.1.1,
+      ),
+    )
 
 -- a standing that walks is not that of a client that holds a name
-past-a-name : (here : Bool) (name token : ℕ) (rest : Option Standing) → cond here (Some (Holds name)) rest ≡ Some (Walking token) → rest ≡ Some (Walking token)
+past-a-name : (here : Bool) (name token : ℕ) (rest : Option Standing) → cond here (Some (Holds name)) rest ≡ Some (Walking token)
+    → rest ≡ Some (Walking token)
 past-a-name true name token rest found = cc
 past-a-name false name token rest found = found
 
-pub any-from-walking : (names : List (ℕ × Standing)) (client token : ℕ) → standing_of_client names client ≡ Some (Walking token) → list_any is_walking (values_of names) ≡ true
+pub any-from-walking : (names : List (ℕ × Standing)) (client token : ℕ) → standing_of_client names client ≡ Some (Walking token)
+    → list_any is_walking (values_of names) ≡ true
 any-from-walking [] client token found = cc
 any-from-walking ((first, Walking other) ∷ names) client token found = refl
 any-from-walking ((first, Holds name) ∷ names) client token found =
     any-from-walking names client token (past-a-name (nat_eq client first) name token (standing_of_client names client) found)
 
 -- where nobody walks, each client holds a name
-pub length-grants-in : (names : List (ℕ × Standing)) → list_any is_walking (values_of names) ≡ false → length (grants_in names) ≡ length names
+pub length-grants-in : (names : List (ℕ × Standing)) → list_any is_walking (values_of names) ≡ false
+    → length (grants_in names) ≡ length names
 length-grants-in [] none = refl
 length-grants-in ((client, Walking token) ∷ names) none = cc
 length-grants-in ((client, Holds name) ∷ names) none = ap suc (length-grants-in names none)

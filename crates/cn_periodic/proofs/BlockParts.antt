@@ -56,7 +56,15 @@ splittable d x room there = go room.0 room.1 room.2 room.3
   where
     go : (level : ℕ) → 1 ≤ level → IsRow level x → d.balancers + block_balancers level ≤ MOST_BALANCERS → (n : ℕ) × Splittable d x n
     go zero some row r = absurd (omega arith)
-    go (suc n) some row r = (n, record { row = row; room = rw (block_size n) at r; there = λ w. let t = there w in let e = times-inner w n x row in omega arith })
+    go (suc n) some row r = (
+      n,
+      record {
+        row = row;
+        room = rw (block_size n) at r;
+        there = λ w. let t = there w in
+            let e = times-inner w n x row in omega arith;
+      },
+    )
 
 -- a row of more than two wires has level n + 2
 splittable-many : (d : Plan) (x : List ℕ) → (length x ≡ 2 → ⊥) → HasRoom d x → AllLoose d x → (n : ℕ) × Splittable d x (suc n)
@@ -78,7 +86,8 @@ first-asked d x a e many room there =
     rw e (shorter (suc n) x (a_cochain x) s.row row, ((suc n, omega arith, row, fits), loose))
 
 -- and the second
-pub second-asked : (d e : Plan) (x a b z : List ℕ) → a ≡ a_cochain x → b ≡ b_cochain x → (length x ≡ 2 → ⊥) → HasRoom d x → AllLoose d x → Gives d e a z
+pub second-asked : (d e : Plan) (x a b z : List ℕ) → a ≡ a_cochain x → b ≡ b_cochain x → (length x ≡ 2 → ⊥) → HasRoom d x → AllLoose d x
+    → Gives d e a z
     → (length b < length x) × (HasRoom e b × AllLoose e b)
 second-asked d e x a b z p q many room there first =
     let (n, s) = splittable-many d x many room there in
@@ -99,7 +108,8 @@ pub record InnerBlocks (d e f : Plan) (x z z2 : List ℕ) (n : ℕ) : Type 0 whe
   first_order : block_made (suc n) d (a_cochain x) ≡ (e, z)
   second_order : block_made (suc n) e (b_cochain x) ≡ (f, z2)
 
-pub inner-blocks : (d e f : Plan) (x a b z z2 : List ℕ) → a ≡ a_cochain x → b ≡ b_cochain x → (length x ≡ 2 → ⊥) → HasRoom d x → AllLoose d x
+pub inner-blocks : (d e f : Plan) (x a b z z2 : List ℕ) → a ≡ a_cochain x → b ≡ b_cochain x → (length x ≡ 2 → ⊥) → HasRoom d x
+    → AllLoose d x
     → Gives d e a z → Orders d e a z → Gives e f b z2 → Orders e f b z2
     → (n : ℕ) × InnerBlocks d e f x z z2 n
 inner-blocks d e f x a b z z2 p q many room there first order second order2 =
@@ -109,8 +119,16 @@ inner-blocks d e f x a b z z2 p q many room there first order second order2 =
     let order' : Orders d e (a_cochain x) z = rw p at order in
     let order2' : Orders e f (b_cochain x) z2 = rw q at order2 in
     let row = a_row (suc n) x s.row in
-    let row2 = b-row (suc n) x s.row in
-    (n, record { whole = s; first = first' (suc n) row; second = second' (suc n) row2; first_order = order' (suc n) row; second_order = order2' (suc n) row2 })
+    let row2 = b-row (suc n) x s.row in (
+      n,
+      record {
+        whole = s;
+        first = first' (suc n) row;
+        second = second' (suc n) row2;
+        first_order = order' (suc n) row;
+        second_order = order2' (suc n) row2;
+      },
+    )
 
 pub length-outs : {old new : Plan} {x y : List ℕ} {level : ℕ} → BuildsBlock old new x y level → IsRow level y
 length-outs b = ap length b.wires ∙ length-range_with_len _ _
@@ -123,8 +141,12 @@ last-asked {d} {e} {f} {x} {z} {z2} {n} s =
     let r = s.whole.room in
     let made = s.first.built.balancers in
     let made2 = s.second.built.balancers in
-    let inner = Builds-beside s.whole.there s.first.built s.second.built in
-    (l ∙ sym (length-outs s.second), omega (arith, l, r, made, made2, block_size n, block-more n), λ w. let t = s.whole.there w in let j = inner.loosed w in omega arith)
+    let inner = Builds-beside s.whole.there s.first.built s.second.built in (
+      l ∙ sym (length-outs s.second),
+      omega (arith, l, r, made, made2, block_size n, block-more n),
+      λ w. let t = s.whole.there w in
+          let j = inner.loosed w in omega arith,
+    )
 
 -- the last layer over the two inner blocks
 blocks-all : {d e f g : Plan} {x z z2 y : List ℕ} {n : ℕ} → InnerBlocks d e f x z z2 n
@@ -137,11 +159,13 @@ blocks-all {d} {e} {f} {g} {x} {z} {z2} {y} {n} s wires last flow =
     let l = length-outs s.first in
     let inner = Builds-like x (λ w. times-inner w (suc n) x s.whole.row) (Builds-beside s.whole.there s.first.built s.second.built) in
     record {
-      built = Builds-sized (suc (suc n)) (block_balancers (suc (suc n))) (omega arith) (block_size (suc n) ∙ omega (arith, l, block_size n, block-more n)) (Builds-then inner last);
+      built = Builds-sized (suc (suc n)) (block_balancers (suc (suc n))) (omega arith)
+          (block_size (suc n) ∙ omega (arith, l, block_size n, block-more n)) (Builds-then inner last);
       wires =
           let same = inner.entries in
           let made = inner.balancers in
-          let start : f.entries + 2 * f.balancers ≡ d.entries + 2 * (d.balancers + 2 ^ suc (suc n) / 2 * (suc (suc n) - 1)) = omega (arith, same, made, block_size n, block-less n) in
+          let start : f.entries + 2 * f.balancers ≡ d.entries + 2 * (d.balancers + 2 ^ suc (suc n) / 2 * (suc (suc n) - 1)) =
+          omega (arith, same, made, block_size n, block-less n) in
           let many : 2 * length z ≡ 2 ^ suc (suc n) = omega (arith, l, pow-succ' 2 (suc n)) in
           wires ∙ rw (start, many);
       flow = λ h k.
@@ -157,7 +181,8 @@ pub gives_all : {d e f g : Plan} {x z z2 : List ℕ} (n : ℕ) (y : List ℕ) �
 gives_all {d} {e} {f} {g} {x} {z} {z2} n y s wires last flow level row =
     subst (λ l. BuildsBlock d g x y l) (sym (same-level (length x) (suc (suc n)) level s.whole.row row)) (blocks-all s wires last flow)
 
-block_made-suc : (level : ℕ) (d : Plan) (x : List ℕ) {e f : Plan} {z z2 : List ℕ} → block_made level d (a_cochain x) ≡ (e, z) → block_made level e (b_cochain x) ≡ (f, z2)
+block_made-suc : (level : ℕ) (d : Plan) (x : List ℕ) {e f : Plan} {z z2 : List ℕ} → block_made level d (a_cochain x) ≡ (e, z)
+    → block_made level e (b_cochain x) ≡ (f, z2)
     → block_made (suc level) d x ≡ layer_made f z z2
 unfolding block_made
 block_made-suc level d x first second = rw (first, second) refl
@@ -168,7 +193,8 @@ block_made-zero d x = refl
 
 ordered-all : {d e f g : Plan} {x z z2 y : List ℕ} {n : ℕ} → InnerBlocks d e f x z z2 n
     → y ≡ range_with_len (next_wire f) (2 * length z) → g ≡ with_layer f z z2 → block_made (suc (suc n)) d x ≡ (g, y)
-ordered-all {d} {e} {f} {g} {x} {z} {z2} {y} {n} s wires plan = block_made-suc (suc n) d x s.first_order s.second_order ∙ rw (wires, plan) refl
+ordered-all {d} {e} {f} {g} {x} {z} {z2} {y} {n} s wires plan =
+    block_made-suc (suc n) d x s.first_order s.second_order ∙ rw (wires, plan) refl
 
 pub orders-all : {d e f g : Plan} {x z z2 : List ℕ} (n : ℕ) (y : List ℕ) → InnerBlocks d e f x z z2 n
     → y ≡ range_with_len (next_wire f) (2 * length z) → g ≡ with_layer f z z2 → Orders d g x y

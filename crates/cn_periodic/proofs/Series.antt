@@ -20,7 +20,13 @@ pub record Series (old new : Plan) (x y : List ℕ) (level n : ℕ) : Type 0 whe
 
 pub series-none : {d : Plan} {x : List ℕ} (y : List ℕ) (level : ℕ) → y ≡ x → IsRow level x → Series d d x y level 0
 unfolding blocks
-series-none {d} {x} y level e row = rw e (record { built = Builds-sized (0 * level) (0 * block_balancers level) (omega arith) (omega arith) (Builds-same d x); row = row; flow = λ f k. refl; rest = let all : level - 0 ≡ level = omega arith in rw all refl })
+series-none {d} {x} y level e row = rw e
+    (record {
+      built = Builds-sized (0 * level) (0 * block_balancers level) (omega arith) (omega arith) (Builds-same d x);
+      row = row;
+      flow = λ f k. refl;
+      rest = let all : level - 0 ≡ level = omega arith in rw all refl;
+    })
 
 -- the last of them
 blocks-last : (n level : ℕ) (x : List ℕ) → block level (blocks n level x) ≡ blocks (suc n) level x
@@ -29,7 +35,8 @@ blocks-last zero level x = refl
 blocks-last (suc n) level x = blocks-last n level (block level x)
 
 -- what one more block is asked
-pub next-asked : {d e : Plan} {x y : List ℕ} {level n : ℕ} → n < level → d.balancers + periodic_balancers level ≤ MOST_BALANCERS → AllLoose d x → Series d e x y level n
+pub next-asked : {d e : Plan} {x y : List ℕ} {level n : ℕ} → n < level → d.balancers + periodic_balancers level ≤ MOST_BALANCERS
+    → AllLoose d x → Series d e x y level n
     → HasRoom e y × AllLoose e y
 next-asked {d} {e} {x} {y} {level} {n} more room there s =
     let made = s.built.balancers in
@@ -39,11 +46,13 @@ next-asked {d} {e} {x} {y} {level} {n} more room there s =
     ((level, omega arith, s.row, omega arith), λ w. let t = there w in let j = s.built.loosed w in omega arith)
 
 -- the next of them
-series-made-suc : (n level : ℕ) (d : Plan) (x : List ℕ) {e : Plan} {y : List ℕ} → block_made level d x ≡ (e, y) → series_made (suc n) level d x ≡ series_made n level e y
+series-made-suc : (n level : ℕ) (d : Plan) (x : List ℕ) {e : Plan} {y : List ℕ} → block_made level d x ≡ (e, y)
+    → series_made (suc n) level d x ≡ series_made n level e y
 unfolding series_made
 series-made-suc n level d x first = rw first refl
 
-pub series-more : {d e f : Plan} {x y : List ℕ} {level n : ℕ} (z : List ℕ) → n < level → Series d e x y level n → Gives e f y z → Orders e f y z → Series d f x z level (n + 1)
+pub series-more : {d e f : Plan} {x y : List ℕ} {level n : ℕ} (z : List ℕ) → n < level → Series d e x y level n → Gives e f y z
+    → Orders e f y z → Series d f x z level (n + 1)
 series-more {d} {e} {f} {x} {y} {level} {n} z more s gives orders =
     let b = gives level s.row in
     record {
@@ -51,7 +60,8 @@ series-more {d} {e} {f} {x} {y} {level} {n} z more s gives orders =
       row = length-outs b;
       flow = λ h k.
           let last : suc n ≡ n + 1 = omega arith in
-          b.flow h k ∙ ap (block level) (s.flow h (b.built.flow h k)) ∙ blocks-last n level (map h x) ∙ ap (λ m. blocks m level (map h x)) last;
+          b.flow h k ∙ ap (block level) (s.flow h (b.built.flow h k)) ∙ blocks-last n level (map h x)
+          ∙ ap (λ m. blocks m level (map h x)) last;
       rest =
           let left : level - n ≡ suc (level - (n + 1)) = omega arith in
           sym (series-made-suc (level - (n + 1)) level e y (orders level s.row)) ∙ (rw left at s.rest);
@@ -71,4 +81,8 @@ pub series-all : {d e : Plan} {x y : List ℕ} {level n : ℕ} → n ≡ level �
 unfolding periodic
 series-all {d} {e} {x} {y} {level} {n} same s =
     let whole = rw same at s in
-    record { built = Builds-sized (periodic_depth level) (periodic_balancers level) (omega arith) (omega arith) whole.built; row = whole.row; flow = whole.flow }
+    record {
+      built = Builds-sized (periodic_depth level) (periodic_balancers level) (omega arith) (omega arith) whole.built;
+      row = whole.row;
+      flow = whole.flow;
+    }

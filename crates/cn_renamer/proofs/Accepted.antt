@@ -30,7 +30,8 @@ later-numbers width n m (e ∷ epochs) (r ∷ records) same served above =
     (omega (arith, same, served.0.1.number, above.0), later-numbers width n m epochs records same served.1 above.1)
 
 -- the records' numbers rise as the epochs' do
-rising : (width : ℕ) (epochs : List BatchEpoch) (records : List EpochRecord) → AllZip (AfterSome width) epochs records → AreRising epochs → AreRisingRecords records
+rising : (width : ℕ) (epochs : List BatchEpoch) (records : List EpochRecord) → AllZip (AfterSome width) epochs records → AreRising epochs
+    → AreRisingRecords records
 unfolding AreRising AreRisingRecords
 rising width [] [] served up = tt
 rising width [] (r ∷ records) served up = absurd served
@@ -41,12 +42,14 @@ rising width (e ∷ epochs) (r ∷ records) served up =
 own-names : (width m : ℕ) (e : BatchEpoch) (r : EpochRecord) → IsServed width m e r → IsSmallEpoch e → HasOwnNames r
 own-names width m e r served small = record {
   number = omega (arith, served.number, small.number);
-  clients = All-permutation (λ (client : ℕ). client < 2 ^ 64) (map (λ (c : Client). c.id) e.clients.items) r.holders.items served.holders small.clients;
+  clients = All-permutation (λ (client : ℕ). client < 2 ^ 64) (map (λ (c : Client). c.id) e.clients.items) r.holders.items served.holders
+      small.clients;
   holders = as-many width m e r served;
   once = served.once;
 }
 
-all-names : (width : ℕ) (epochs : List BatchEpoch) (records : List EpochRecord) → AllZip (AfterSome width) epochs records → AllByRecursion IsSmallEpoch epochs → AllByRecursion HasOwnNames records
+all-names : (width : ℕ) (epochs : List BatchEpoch) (records : List EpochRecord) → AllZip (AfterSome width) epochs records
+    → AllByRecursion IsSmallEpoch epochs → AllByRecursion HasOwnNames records
 all-names width [] [] served small = tt
 all-names width [] (r ∷ records) served small = absurd served
 all-names width (e ∷ epochs) [] served small = absurd served
@@ -112,9 +115,11 @@ module _ (net : Description) (carry large : Bool) (bytes text : List ℕ) (run :
   printed w =
       let width = run.network.table.width in
       ap (λ (t : List ℕ). printed_epochs w (records_of t)) run.written
-      ∙ printed-back (bounds_of large 0).records w run.records (few-records large) tight (some-clients width run.epochs run.records each run.batch.holds.some)
+      ∙ printed-back (bounds_of large 0).records w run.records (few-records large) tight
+      (some-clients width run.epochs run.records each run.batch.holds.some)
       ∙ printed-alike width w run.epochs run.records each
 
   -- each epoch's names are shared out, after any number of clients
-  pub counted_after : (w m epoch : ℕ) → counts_after m w (names_in epoch (records_of text)) ≡ shares_after m (length (names_in epoch (records_of text))) w
+  pub counted_after : (w m epoch : ℕ) → counts_after m w (names_in epoch (records_of text))
+      ≡ shares_after m (length (names_in epoch (records_of text))) w
   counted_after = tight-after (bounds_of large 0).records (records_of text) accepted

@@ -10,9 +10,11 @@ use Rattle.cn_renamer.specs.Performing.{IsTextOf}
 use Rattle.cn_renamer.proofs.Headline.{written-as}
 
 -- with one client in hand it is the text of a run in order, and else that of a run
-pub run-as-asked : {W : Type 0} (contents : W → Option (List ℕ)) (old new : W) (options : Settings) (known : Option (List ℕ)) (written : Written)
+pub run-as-asked : {W : Type 0} (contents : W → Option (List ℕ)) (old new : W) (options : Settings) (known : Option (List ℕ))
+    (written : Written)
     → HasWritten contents (IsRunOfKnown options.net options.form options.carry options.large known) written old new
-    → (options.hand ≡ 1 → HasWritten contents (IsRunInOrderOfKnown options.net options.form options.carry options.large known) written old new)
+    → (options.hand ≡ 1 → HasWritten contents (IsRunInOrderOfKnown options.net options.form options.carry options.large known) written old
+    new)
     → HasWritten contents (IsTextOf (job.Run options) known) written old new
 run-as-asked contents old new options known written ran ordered =
     let Run : List ℕ → Type 0 = IsRunOfKnown options.net options.form options.carry options.large known in
@@ -22,6 +24,7 @@ run-as-asked contents old new options known written ran ordered =
       | inr other ↦ written-as contents old new Run Asked (λ text is. (is, λ hand. absurd (other hand))) written ran
       | inl hand ↦
           written-as contents old new Ordered Asked (λ text is.
-          let run = known-map known (λ bytes. IsRunInOrder options.net options.form options.carry options.large bytes text) (λ bytes. IsRunOf options.net options.form options.carry options.large bytes text) is (λ bytes it. it.run) in
+          let run = known-map known (λ bytes. IsRunInOrder options.net options.form options.carry options.large bytes text)
+          (λ bytes. IsRunOf options.net options.form options.carry options.large bytes text) is (λ bytes it. it.run) in
           (run, λ _. is)) written (ordered hand)
     ]

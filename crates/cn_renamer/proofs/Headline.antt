@@ -19,15 +19,18 @@ abbrev pub AfterSome : ℕ → BatchEpoch → EpochRecord → Type 0
 AfterSome width epoch r = (m : ℕ) × IsServed width m epoch r
 
 -- and so is each of epochs that were served one after another
-pub each-served : (carry : Bool) (width m : ℕ) (epochs : List BatchEpoch) (records : List EpochRecord) → AreServed carry width m epochs records → AllZip (AfterSome width) epochs records
+pub each-served : (carry : Bool) (width m : ℕ) (epochs : List BatchEpoch) (records : List EpochRecord)
+    → AreServed carry width m epochs records → AllZip (AfterSome width) epochs records
 unfolding AreServed
 each-served carry width m [] [] served = tt
 each-served carry width m [] (r ∷ records) served = absurd served
 each-served carry width m (e ∷ epochs) [] served = absurd served
-each-served carry width m (e ∷ epochs) (r ∷ records) (one, rest) = ((m, one), each-served carry width (clients_before_next carry m (length e.clients.items)) epochs records rest)
+each-served carry width m (e ∷ epochs) (r ∷ records) (one, rest) =
+    ((m, one), each-served carry width (clients_before_next carry m (length e.clients.items)) epochs records rest)
 
 -- what was written of a text with a property was written of one with any property that follows
-pub written-as : {W : Type 0} (contents : W → Option (List ℕ)) (old new : W) (P Q : List ℕ → Type 0) → ((text : List ℕ) → P text → Q text) → (written : Written)
+pub written-as : {W : Type 0} (contents : W → Option (List ℕ)) (old new : W) (P Q : List ℕ → Type 0) → ((text : List ℕ) → P text → Q text)
+    → (written : Written)
     → HasWritten contents P written old new → HasWritten contents Q written old new
 written-as contents old new P Q more Whole (text, is, grows) = (text, more text is, grows)
 written-as contents old new P Q more (First count) (text, is, few, grows) = (text, more text is, few, grows)

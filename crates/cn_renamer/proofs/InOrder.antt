@@ -37,25 +37,35 @@ abbrev printed-grants : Printed → List ℕ
 printed-grants t = grant_lines t.number t.clients t.holders
 
 abbrev printed-text : Form → Network → List Printed → List ℕ
-printed-text Report network ts = heading network ++ flat_map (printed-lines network.table.width) ts ++ report_end (length ts) (sum_by (λ (t : Printed). t.clients) ts)
+printed-text Report network ts = heading network ++ flat_map (printed-lines network.table.width) ts
+    ++ report_end (length ts) (sum_by (λ (t : Printed). t.clients) ts)
 printed-text Grants network ts = grants_header ++ flat_map printed-grants ts
 
-flat-printed : (g : EpochRecord → List ℕ) (f : Printed → List ℕ) → ((r : EpochRecord) → g r ≡ f (printed r)) → (records : List EpochRecord) → flat_map g records ≡ flat_map f (map printed records)
+flat-printed : (g : EpochRecord → List ℕ) (f : Printed → List ℕ) → ((r : EpochRecord) → g r ≡ f (printed r)) → (records : List EpochRecord)
+    → flat_map g records ≡ flat_map f (map printed records)
 flat-printed g f same [] = refl
 flat-printed g f same (r ∷ records) = λ i. same r i ++ flat-printed g f same records i
 
-sum-printed : (records : List EpochRecord) → sum_by (λ (r : EpochRecord). r.clients) records ≡ sum_by (λ (t : Printed). t.clients) (map printed records)
+sum-printed : (records : List EpochRecord)
+    → sum_by (λ (r : EpochRecord). r.clients) records ≡ sum_by (λ (t : Printed). t.clients) (map printed records)
 sum-printed [] = refl
 sum-printed (r ∷ records) =
-    omega (arith, sum_by-cons (λ (x : EpochRecord). x.clients) r records, sum_by-cons (λ (t : Printed). t.clients) (printed r) (map printed records), sum-printed records)
+    omega (
+      arith,
+      sum_by-cons (λ (x : EpochRecord). x.clients) r records,
+      sum_by-cons (λ (t : Printed). t.clients) (printed r) (map printed records),
+      sum-printed records,
+    )
 
-text-printed : (form : Form) (network : Network) (records : List EpochRecord) → text_in form network records ≡ printed-text form network (map printed records)
+text-printed : (form : Form) (network : Network) (records : List EpochRecord)
+    → text_in form network records ≡ printed-text form network (map printed records)
 text-printed Report network records =
     let lines : flat_map (epoch_lines network.table.width) records ≡ flat_map (printed-lines network.table.width) (map printed records) =
     flat-printed (epoch_lines network.table.width) (printed-lines network.table.width) (λ r. refl) records in
     λ i. heading network ++ lines i ++ report_end (sym (length-map records printed) i) (sum-printed records i)
 text-printed Grants network records =
-    ap (λ (xs : List ℕ). grants_header ++ xs) (flat-printed (λ r. grant_lines r.number r.clients r.holders.items) printed-grants (λ r. refl) records)
+    ap (λ (xs : List ℕ). grants_header ++ xs)
+    (flat-printed (λ r. grant_lines r.number r.clients r.holders.items) printed-grants (λ r. refl) records)
 
 -- it follows from the batch
 abbrev printed-of : Bool → ℕ → ℕ → List (ℕ × List Client) → List Printed
@@ -64,7 +74,8 @@ printed-of carry w m (e ∷ epochs) =
     record { number = e.0; clients = length e.1; counts = shares_after m (length e.1) w; holders = map (λ (c : Client). c.id) e.1 }
     ∷ printed-of carry w (when carry (m + length e.1)) epochs
 
-printed-served : (carry : Bool) (w m : ℕ) (epochs : List BatchEpoch) (records : List EpochRecord) → AreServed carry w m epochs records → AllZip IsInOrder epochs records
+printed-served : (carry : Bool) (w m : ℕ) (epochs : List BatchEpoch) (records : List EpochRecord) → AreServed carry w m epochs records
+    → AllZip IsInOrder epochs records
     → map printed records ≡ printed-of carry w m (map plain_epoch epochs)
 unfolding AreServed
 printed-served carry w m [] [] served ordered = refl
@@ -75,12 +86,14 @@ printed-served carry w m (e ∷ epochs) (r ∷ records) (one, rest) (order, othe
     λ i. record { number = one.number i; clients = one.clients i; counts = counts i; holders = order i }
     ∷ printed-served carry w (when carry (m + length e.clients.items)) epochs records rest others i
 
-pub one-text-in-order : (net : Description) (form : Form) (carry large : Bool) (bytes text other : List ℕ) (one : IsRunInOrder net form carry large bytes text) (another : IsRunInOrder net form carry large bytes other)
+pub one-text-in-order : (net : Description) (form : Form) (carry large : Bool) (bytes text other : List ℕ)
+    (one : IsRunInOrder net form carry large bytes text) (another : IsRunInOrder net form carry large bytes other)
     → map plain_epoch one.run.epochs ≡ map plain_epoch another.run.epochs → text ≡ other
 one-text-in-order net form carry large bytes text other one another same =
     let networks = one-network net one.run.network another.run.network one.run.built another.run.built in
     let first = printed-served carry one.run.network.table.width 0 one.run.epochs one.run.records one.run.served one.ordered in
-    let second = printed-served carry another.run.network.table.width 0 another.run.epochs another.run.records another.run.served another.ordered in
+    let second = printed-served carry another.run.network.table.width 0 another.run.epochs another.run.records another.run.served
+    another.ordered in
     one.run.written
     ∙ text-printed form one.run.network one.run.records
     ∙ ap (printed-text form one.run.network) first

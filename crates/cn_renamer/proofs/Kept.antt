@@ -39,7 +39,12 @@ tight-counts w r tight =
     each : (i : ℕ) → i < length r.counts.items → get_or r.counts.items i 0 ≡ get_or (shares_after 0 r.clients w) i 0
     each i within =
         let below : i < w = omega (arith, within, tight.exits) in
-        omega (arith, tight.counts i below, get_or-map-range_with_len (λ i. share (0 + r.clients) w i - share 0 w i) 0 w i i 0 below (zero-add i))
+        omega (
+          arith,
+          tight.counts i below,
+          get_or-map-range_with_len (λ i. share (0 + r.clients) w i - share 0 w i) 0 w i i 0 below
+              (zero-add i),
+        )
 
 -- a record without counts has the shares for counts
 left-out : (w : ℕ) (kept : EpochRecord) → kept.counts.items ≡ [] → kept_counts w kept ≡ shares_after 0 kept.clients w
@@ -53,7 +58,8 @@ record-kept w r kept tight (number, clients, none, holders) = record {
   holders = ap (λ h. h.items) (sym holders);
 }
 
-record-whole : (w : ℕ) (r kept : EpochRecord) → IsTightRecord w 0 r → r.clients ≤ MOST_CLIENTS → IsWithoutCounts (Turned r) (Turned kept) → IsWholeKeptRecord w kept
+record-whole : (w : ℕ) (r kept : EpochRecord) → IsTightRecord w 0 r → r.clients ≤ MOST_CLIENTS → IsWithoutCounts (Turned r) (Turned kept)
+    → IsWholeKeptRecord w kept
 record-whole w r kept tight few (number, clients, none, holders) = record {
   counts = ap length (left-out w kept none) ∙ shares-many w kept.clients;
   few = λ same. omega (arith, few, clients);
@@ -61,10 +67,12 @@ record-whole w r kept tight few (number, clients, none, holders) = record {
 }
 
 -- what is kept of an answer that takes epochs on which nothing is carried
-pub kept-same : (old new : Epochs) (command : Command) (answer kept : Answer) → old.core.base ≡ 0 → TakesCommandTo old command answer new → IsWithoutCounts answer kept
+pub kept-same : (old new : Epochs) (command : Command) (answer kept : Answer) → old.core.base ≡ 0 → TakesCommandTo old command answer new
+    → IsWithoutCounts answer kept
     → IsKept old.core.network.table.width answer kept
 kept-same old new command (Replied reply) kept none takes same = subst (IsKept old.core.network.table.width (Replied reply)) (sym same) refl
-kept-same old new command (TurnRefused fault) kept none takes same = subst (IsKept old.core.network.table.width (TurnRefused fault)) (sym same) refl
+kept-same old new command (TurnRefused fault) kept none takes same =
+    subst (IsKept old.core.network.table.width (TurnRefused fault)) (sym same) refl
 kept-same old new command (Turned r) (Replied reply) none takes same = absurd same
 kept-same old new command (Turned r) (TurnRefused fault) none takes same = absurd same
 kept-same old new (Enter client entry) (Turned r) (Turned kept) none takes same = absurd takes
@@ -72,7 +80,8 @@ kept-same old new (Step client) (Turned r) (Turned kept) none takes same = absur
 kept-same old new Turn (Turned r) (Turned kept) none (quiet, said, tight, next) same =
     record-kept old.core.network.table.width r kept (subst (λ base. IsTightRecord old.core.network.table.width base r) none tight) same
 
-pub kept-whole : (old new : Epochs) (command : Command) (answer kept : Answer) → old.core.base ≡ 0 → length old.core.clients ≤ MOST_CLIENTS → TakesCommandTo old command answer new
+pub kept-whole : (old new : Epochs) (command : Command) (answer kept : Answer) → old.core.base ≡ 0 → length old.core.clients ≤ MOST_CLIENTS
+    → TakesCommandTo old command answer new
     → IsWithoutCounts answer kept → IsWholeKept old.core.network.table.width kept
 kept-whole old new command (Replied reply) kept none few takes same = subst (IsWholeKept old.core.network.table.width) (sym same) tt
 kept-whole old new command (TurnRefused fault) kept none few takes same = subst (IsWholeKept old.core.network.table.width) (sym same) tt
@@ -81,7 +90,8 @@ kept-whole old new command (Turned r) (TurnRefused fault) none few takes same = 
 kept-whole old new (Enter client entry) (Turned r) (Turned kept) none few takes same = absurd takes
 kept-whole old new (Step client) (Turned r) (Turned kept) none few takes same = absurd takes
 kept-whole old new Turn (Turned r) (Turned kept) none few (quiet, said, tight, next) same =
-    record-whole old.core.network.table.width r kept (subst (λ base. IsTightRecord old.core.network.table.width base r) none tight) (omega (arith, few, said.clients)) same
+    record-whole old.core.network.table.width r kept (subst (λ base. IsTightRecord old.core.network.table.width base r) none tight)
+    (omega (arith, few, said.clients)) same
 
 -- what is kept fits the command
 fits-kept : (w : ℕ) (command : Command) (answer kept : Answer) → Fits command answer → IsKept w answer kept → Fits command kept
@@ -103,7 +113,8 @@ fits-kept w Turn (Turned r) (TurnRefused kept) fits same = absurd same
 fits-kept w Turn (TurnRefused fault) (Replied kept) fits same = absurd same
 fits-kept w Turn (TurnRefused fault) (Turned kept) fits same = absurd same
 
-pub fit-kept : (w : ℕ) (commands : List Command) (answers kept : List Answer) → AreAnswers commands answers → AllZip (IsKept w) answers kept → AreAnswers commands kept
+pub fit-kept : (w : ℕ) (commands : List Command) (answers kept : List Answer) → AreAnswers commands answers → AllZip (IsKept w) answers kept
+    → AreAnswers commands kept
 fit-kept w [] [] [] fit same = tt
 fit-kept w (c ∷ cs) (a ∷ rest) (k ∷ ks) fit same = (fits-kept w c a k fit.0 same.0, fit-kept w cs rest ks fit.1 same.1)
 fit-kept w [] [] (k ∷ ks) fit same = absurd same
@@ -123,7 +134,8 @@ memory-kept w (TurnRefused fault) (Turned kept) had same = absurd same
 memory-kept w (Turned r) (Replied kept) had same = absurd same
 memory-kept w (Turned r) (TurnRefused kept) had same = absurd same
 
-pub all-memory : (w : ℕ) (answers kept : List Answer) → AllByRecursion HadMemory answers → AllZip (IsKept w) answers kept → AllByRecursion HadMemory kept
+pub all-memory : (w : ℕ) (answers kept : List Answer) → AllByRecursion HadMemory answers → AllZip (IsKept w) answers kept
+    → AllByRecursion HadMemory kept
 all-memory w [] [] had same = tt
 all-memory w (a ∷ rest) (k ∷ ks) had same = (memory-kept w a k had.0 same.0, all-memory w rest ks had.1 same.1)
 all-memory w [] (k ∷ ks) had same = absurd same
@@ -131,16 +143,20 @@ all-memory w (a ∷ rest) [] had same = absurd same
 
 -- ---- the text of what is kept
 
-pub replay-is : (network : Network) (old new : Epochs) (commands : List Command) (answers kept : List Answer) (number entered inside : ℕ) → old ≡ record { number = 0; carries = false; core = start network }
-    → EpochsAgree old 0 [] None → AreAnsweredAs old commands answers kept new → new.core.network ≡ old.core.network → ByEpochHistories new (λ turns history carried. number ≡ turns)
-    → ByEpochHistories new (λ turns history carried. entered ≡ enters_of history) → ByEpochHistories new (λ turns history carried. inside ≡ inside_of new.core.network.table history carried)
+pub replay-is : (network : Network) (old new : Epochs) (commands : List Command) (answers kept : List Answer) (number entered inside : ℕ)
+    → old ≡ record { number = 0; carries = false; core = start network }
+    → EpochsAgree old 0 [] None → AreAnsweredAs old commands answers kept new → new.core.network ≡ old.core.network
+    → ByEpochHistories new (λ turns history carried. number ≡ turns)
+    → ByEpochHistories new (λ turns history carried. entered ≡ enters_of history)
+    → ByEpochHistories new (λ turns history carried. inside ≡ inside_of new.core.network.table history carried)
     → (text : List ℕ) → text ≡ replay_text network commands answers number entered inside → IsReplayText network commands text
 replay-is network old new commands answers kept number entered inside begun agrees given same turned came within text is =
     let (may, after) = given.by_history 0 [] None agrees in
     let history : List Event = history_by_commands [] commands answers in
     let ours : old.core.network ≡ network = ap (λ (e : Epochs). e.core.network) begun in
     let last : inside ≡ inside_of network.table history (carried_by network.table []) =
-    within (turns_by 0 answers) history None after ∙ ap (λ (n : Network). inside_of n.table history (carried_by n.table [])) (same ∙ ours) in
+    within (turns_by 0 answers) history None after
+    ∙ ap (λ (n : Network). inside_of n.table history (carried_by n.table [])) (same ∙ ours) in
     record {
       answers = answers;
       by_history = rw ours at may;

@@ -16,23 +16,33 @@ use Rattle.cn_renamer.specs.Replay.{IsReplayOf, IsReplayOfCommands, IsReplayText
 use Rattle.cn_renamer.specs.Show.{IsWiringOf}
 
 module _ (network : Network) (is : IsNetwork network) where
-  pub one-text : (commands : List Command) (text other : List ℕ) → IsReplayText network commands text → IsReplayText network commands other → text ≡ other
+  pub one-text : (commands : List Command) (text other : List ℕ) → IsReplayText network commands text → IsReplayText network commands other
+      → text ≡ other
   one-text commands text other one another =
-      let same = one-list network is 0 [] None commands tt tt one.answers another.answers one.memory another.memory one.by_history another.by_history (omega arith) in
+      let same = one-list network is 0 [] None commands tt tt one.answers another.answers one.memory another.memory one.by_history
+      another.by_history (omega arith) in
       one.replayed
-      ∙ rw (turns-by-same network is 0 one.answers another.answers same, history-by-same network is [] commands one.answers another.answers same)
-      (ap (λ (lines : List ℕ). heading network ++ lines ++ end_line (turns_by 0 another.answers) (enters_of (history_by_commands [] commands another.answers)) (inside_of network.table (history_by_commands [] commands another.answers) (carried_by network.table [])))
+      ∙ rw (
+        turns-by-same network is 0 one.answers another.answers same,
+        history-by-same network is [] commands one.answers another.answers same,
+      )
+      (ap (λ (lines : List ℕ). heading network ++ lines
+      ++ end_line (turns_by 0 another.answers) (enters_of (history_by_commands [] commands another.answers))
+      (inside_of network.table (history_by_commands [] commands another.answers) (carried_by network.table [])))
       (lines-same network.table.width commands one.answers another.answers same))
       ∙ sym another.replayed
 
 -- ---- on the network of a kind and a width
 
-pub one-text-of : (net : Description) (commands : List Command) (text other : List ℕ) → IsReplayOfCommands net commands text → IsReplayOfCommands net commands other → text ≡ other
+pub one-text-of : (net : Description) (commands : List Command) (text other : List ℕ) → IsReplayOfCommands net commands text
+    → IsReplayOfCommands net commands other → text ≡ other
 one-text-of net commands text other one another =
     let same = one-network net another.network one.network another.built one.built in
-    one-text one.network one.built.2.counts commands text other one.replayed (subst (λ n. IsReplayText n commands other) same another.replayed)
+    one-text one.network one.built.2.counts commands text other one.replayed
+    (subst (λ n. IsReplayText n commands other) same another.replayed)
 
-pub one-text-of-bytes : (net : Description) (bytes text other : List ℕ) → IsReplayOf net bytes text → IsReplayOf net bytes other → text ≡ other
+pub one-text-of-bytes : (net : Description) (bytes text other : List ℕ) → IsReplayOf net bytes text → IsReplayOf net bytes other
+    → text ≡ other
 one-text-of-bytes net bytes text other one another =
     let same = one-schedule another.commands one.commands another.schedule one.schedule in
     one-text-of net one.commands text other one.replayed (subst (λ commands. IsReplayOfCommands net commands other) same another.replayed)

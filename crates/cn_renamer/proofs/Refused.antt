@@ -35,15 +35,18 @@ module _ (fault : BatchFault) where
       by cause.EpochFull e = inl (λ memory. let both = sym e ∙ memory in cc, refl)
       by cause.BatchFull e = inl (λ memory. let both = sym e ∙ memory in cc, refl)
 
-  pub refused-by : (net : Description) (large : Bool) (entries : ℕ) (known : Option (List ℕ)) → entries ≡ entries_of net.kind net.width → IfSome known (λ bytes. IsBatchFault (bounds_of large entries) (records_of bytes) fault)
+  pub refused-by : (net : Description) (large : Bool) (entries : ℕ) (known : Option (List ℕ)) → entries ≡ entries_of net.kind net.width
+      → IfSome known (λ bytes. IsBatchFault (bounds_of large entries) (records_of bytes) fault)
       → IsServeFault net large known (fault_of_batch fault)
   refused-by net large entries known same is = elim batch-or-memory [
-    | inl w ↦ subst (λ (f : ServeFault). IsServeFault net large known f) (sym w.1) (w.0, subst (λ (n : ℕ). IfSome known (λ bytes. IsBatchFault (bounds_of large n) (records_of bytes) fault)) same is)
+    | inl w ↦ subst (λ (f : ServeFault). IsServeFault net large known f) (sym w.1)
+        (w.0, subst (λ (n : ℕ). IfSome known (λ bytes. IsBatchFault (bounds_of large n) (records_of bytes) fault)) same is)
     | inr m ↦ subst (λ (f : ServeFault). IsServeFault net large known f) (sym m) tt
   ]
 
   -- and nothing was written
-  pub none-written : {W : Type 0} (contents : W → Option (List ℕ)) (Is : List ℕ → Type 0) (writer : W) → HasWritten contents Is (until_serve (fault_of_batch fault)) writer writer
+  pub none-written : {W : Type 0} (contents : W → Option (List ℕ)) (Is : List ℕ → Type 0) (writer : W)
+      → HasWritten contents Is (until_serve (fault_of_batch fault)) writer writer
   none-written contents Is writer = elim batch-or-memory [
     | inl w ↦ subst (λ (f : ServeFault). HasWritten contents Is (until_serve f) writer writer) (sym w.1) refl
     | inr m ↦ subst (λ (f : ServeFault). HasWritten contents Is (until_serve f) writer writer) (sym m) refl

@@ -22,11 +22,14 @@ use Rattle.cn_report.specs.Writing.Replay.{AreAnswers, Fits, IsEnterReply, IsSte
 
 -- ---- a reply by history fits its event
 
-enter-replied : (table : Table) (h : List Event) (k : Carried) (client entry : ℕ) → IsEnterReply (answer_to table h k (EnterEvent client entry))
-enter-replied table h k client entry = by (nat_le table.entries entry) (is_some (position_after table h k client)) (nat_le MOST_CLIENTS (enters_of h))
+enter-replied : (table : Table) (h : List Event) (k : Carried) (client entry : ℕ)
+    → IsEnterReply (answer_to table h k (EnterEvent client entry))
+enter-replied table h k client entry = by (nat_le table.entries entry) (is_some (position_after table h k client))
+    (nat_le MOST_CLIENTS (enters_of h))
   where
     by : (beyond there full : Bool)
-        → IsEnterReply (if beyond then EnterRefused NoSuchEntry else if there then EnterRefused AlreadyIn else if full then EnterRefused EpochFull else Entered)
+        → IsEnterReply (if beyond then EnterRefused NoSuchEntry else if there then EnterRefused AlreadyIn else if full then EnterRefused
+        EpochFull else Entered)
     by true there full = tt
     by false true full = tt
     by false false true = tt
@@ -40,17 +43,20 @@ step-replied table h k client = by (position_after table h k client)
     by (Some (On wire)) = tt
     by (Some (Holds name)) = tt
 
-enter-may : (table : Table) (h : List Event) (k : Carried) (client entry : ℕ) (reply : Reply) → core.MayAnswer table h k (EnterEvent client entry) reply → IsEnterReply reply
+enter-may : (table : Table) (h : List Event) (k : Carried) (client entry : ℕ) (reply : Reply)
+    → core.MayAnswer table h k (EnterEvent client entry) reply → IsEnterReply reply
 enter-may table h k client entry reply (inl e) = subst IsEnterReply (sym e) (enter-replied table h k client entry)
 enter-may table h k client entry reply (inr (entered, e)) = subst IsEnterReply (sym e) tt
 
-step-may : (table : Table) (h : List Event) (k : Carried) (client : ℕ) (reply : Reply) → core.MayAnswer table h k (StepEvent client) reply → IsStepReply reply
+step-may : (table : Table) (h : List Event) (k : Carried) (client : ℕ) (reply : Reply) → core.MayAnswer table h k (StepEvent client) reply
+    → IsStepReply reply
 step-may table h k client reply (inl e) = subst IsStepReply (sym e) (step-replied table h k client)
 step-may table h k client reply (inr (entered, e)) = absurd (subst IsStepReply entered (step-replied table h k client))
 
 -- ---- an answer fits its command, and its record is whole
 
-fits-may : (table : Table) (turns : ℕ) (h : List Event) (k : Carried) (command : Command) (answer : Answer) → MayAnswerCommand table turns h k command answer → Fits command answer
+fits-may : (table : Table) (turns : ℕ) (h : List Event) (k : Carried) (command : Command) (answer : Answer)
+    → MayAnswerCommand table turns h k command answer → Fits command answer
 fits-may table turns h k (Enter client entry) (Replied reply) may = enter-may table h k client entry reply may
 fits-may table turns h k (Enter client entry) (Turned r) may = may
 fits-may table turns h k (Enter client entry) (TurnRefused fault) may = may
@@ -61,7 +67,8 @@ fits-may table turns h k Turn (Replied reply) may = may
 fits-may table turns h k Turn (Turned r) may = tt
 fits-may table turns h k Turn (TurnRefused fault) may = tt
 
-whole-may : (table : Table) (turns : ℕ) (h : List Event) (k : Carried) (command : Command) (answer : Answer) → MayAnswerCommand table turns h k command answer → IsWhole table.width answer
+whole-may : (table : Table) (turns : ℕ) (h : List Event) (k : Carried) (command : Command) (answer : Answer)
+    → MayAnswerCommand table turns h k command answer → IsWhole table.width answer
 whole-may table turns h k command (Replied reply) may = tt
 whole-may table turns h k command (TurnRefused fault) may = tt
 whole-may table turns h k (Enter client entry) (Turned r) may = absurd may
@@ -70,17 +77,24 @@ whole-may table turns h k Turn (Turned r) (quiet, said) = (said.exits, said.name
 
 -- ---- so do all
 
-pub fits_all : (table : Table) (turns : ℕ) (h : List Event) (kept : Option (List (List Event))) (commands : List Command) (answers : List Answer) → MayAnswerCommands table turns h kept commands answers → AreAnswers commands answers
+pub fits_all : (table : Table) (turns : ℕ) (h : List Event) (kept : Option (List (List Event))) (commands : List Command)
+    (answers : List Answer) → MayAnswerCommands table turns h kept commands answers → AreAnswers commands answers
 fits_all table turns h kept [] [] may = tt
 fits_all table turns h kept [] (a ∷ rest) may = may
 fits_all table turns h kept (c ∷ cs) [] may = may
-fits_all table turns h kept (c ∷ cs) (a ∷ rest) may = (fits-may table turns h (carried_by table (earlier_in kept)) c a may.0, fits_all table (turns_after turns a) (history_after_command h c a) (kept_after kept h a) cs rest may.1)
+fits_all table turns h kept (c ∷ cs) (a ∷ rest) may = (
+  fits-may table turns h (carried_by table (earlier_in kept)) c a may.0,
+  fits_all table (turns_after turns a) (history_after_command h c a) (kept_after kept h a) cs rest may.1,
+)
 
-pub whole_all : (table : Table) (turns : ℕ) (h : List Event) (kept : Option (List (List Event))) (commands : List Command) (answers : List Answer) → MayAnswerCommands table turns h kept commands answers → All (IsWhole table.width) answers
+pub whole_all : (table : Table) (turns : ℕ) (h : List Event) (kept : Option (List (List Event))) (commands : List Command)
+    (answers : List Answer) → MayAnswerCommands table turns h kept commands answers → All (IsWhole table.width) answers
 whole_all table turns h kept [] [] may = λ k d l. absurd (omega arith)
 whole_all table turns h kept [] (a ∷ rest) may = absurd may
 whole_all table turns h kept (c ∷ cs) [] may = absurd may
-whole_all table turns h kept (c ∷ cs) (a ∷ rest) may = by (whole-may table turns h (carried_by table (earlier_in kept)) c a may.0) (whole_all table (turns_after turns a) (history_after_command h c a) (kept_after kept h a) cs rest may.1)
+whole_all table turns h kept (c ∷ cs) (a ∷ rest) may =
+    by (whole-may table turns h (carried_by table (earlier_in kept)) c a may.0)
+    (whole_all table (turns_after turns a) (history_after_command h c a) (kept_after kept h a) cs rest may.1)
   where
     by : IsWhole table.width a → All (IsWhole table.width) rest → All (IsWhole table.width) (a ∷ rest)
     by here later zero d l = here

@@ -27,7 +27,8 @@ sum-bitonic (suc level) x e =
     let g = back-row level x e in
     omega (
       arith,
-      sum-merge level (bitonic level (take (2 ^ level) x)) (bitonic level (drop (2 ^ level) x)) (bitonic-row level _ f) (bitonic-row level _ g),
+      sum-merge level (bitonic level (take (2 ^ level) x)) (bitonic level (drop (2 ^ level) x)) (bitonic-row level _ f)
+          (bitonic-row level _ g),
       sum-bitonic level (take (2 ^ level) x) f,
       sum-bitonic level (drop (2 ^ level) x) g,
       sum-take-drop (2 ^ level) x,
@@ -42,4 +43,5 @@ bitonic-is_step (suc level) x e =
     merge-is_step level _ _ (bitonic-row level _ f) (bitonic-row level _ g) (bitonic-is_step level _ f) (bitonic-is_step level _ g)
 
 pub bitonic-shares : (level : ℕ) (x : List ℕ) → IsRow level x → bitonic level x ≡ shares (sum x) (2 ^ level)
-bitonic-shares level x e = row_steps level (sum x) (bitonic level x) (bitonic-row level x e) (sum-bitonic level x e) (bitonic-is_step level x e)
+bitonic-shares level x e = row_steps level (sum x) (bitonic level x) (bitonic-row level x e) (sum-bitonic level x e)
+    (bitonic-is_step level x e)

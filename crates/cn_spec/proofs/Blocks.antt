@@ -16,7 +16,8 @@ use Rattle.cn_spec.proofs.Chains.{StepChains, by_place, by_halves}
 pub block-row : (level : ℕ) (x : List ℕ) → IsRow level x → IsRow level (block level x)
 unfolding block
 block-row zero x e = e
-block-row (suc level) x e = layer_row level _ _ (block-row level (a_cochain x) (a_row level x e)) (block-row level (b_cochain x) (b-row level x e))
+block-row (suc level) x e = layer_row level _ _ (block-row level (a_cochain x) (a_row level x e))
+    (block-row level (b_cochain x) (b-row level x e))
 
 pub sum-block : (level : ℕ) (x : List ℕ) → IsRow level x → sum (block level x) ≡ sum x
 unfolding block
@@ -111,19 +112,28 @@ chains-b i x h = (subst (StepChains i) (sym (firsts-b x)) h.1.0, subst (StepChai
 
 -- and those of level 1 they keep
 steps-a : (x : List ℕ) → StepChains 1 x → StepChains 1 (a_cochain x)
-steps-a x h = (subst IsStep (sym (firsts-a x)) (firsts-is_step (firsts x) h.0), subst IsStep (sym (seconds-a x)) (seconds-is_step (seconds x) h.1))
+steps-a x h = (
+  subst IsStep (sym (firsts-a x)) (firsts-is_step (firsts x) h.0),
+  subst IsStep (sym (seconds-a x)) (seconds-is_step (seconds x) h.1),
+)
 
 steps-b : (x : List ℕ) → StepChains 1 x → StepChains 1 (b_cochain x)
-steps-b x h = (subst IsStep (sym (firsts-b x)) (firsts-is_step (seconds x) h.1), subst IsStep (sym (seconds-b x)) (seconds-is_step (firsts x) h.0))
+steps-b x h = (
+  subst IsStep (sym (firsts-b x)) (firsts-is_step (seconds x) h.1),
+  subst IsStep (sym (seconds-b x)) (seconds-is_step (firsts x) h.0),
+)
 
 -- then their sums differ by at most one
 sum-firsts : (level : ℕ) (x : List ℕ) → IsRow (suc level) x → IsStep x → sum (firsts x) ≡ half (sum x) 0
-sum-firsts level x e s = ap (λ r. sum (firsts r)) (step-tree (suc level) x e s) ∙ ap sum (firsts-tree level (sum x)) ∙ sum-tree level (half (sum x) 0)
+sum-firsts level x e s = ap (λ r. sum (firsts r)) (step-tree (suc level) x e s) ∙ ap sum (firsts-tree level (sum x))
+    ∙ sum-tree level (half (sum x) 0)
 
 sum-seconds : (level : ℕ) (x : List ℕ) → IsRow (suc level) x → IsStep x → sum (seconds x) ≡ half (sum x) 1
-sum-seconds level x e s = ap (λ r. sum (seconds r)) (step-tree (suc level) x e s) ∙ ap sum (seconds-tree level (sum x)) ∙ sum-tree level (half (sum x) 1)
+sum-seconds level x e s = ap (λ r. sum (seconds r)) (step-tree (suc level) x e s) ∙ ap sum (seconds-tree level (sum x))
+    ∙ sum-tree level (half (sum x) 1)
 
-sum-a : (level : ℕ) (x : List ℕ) → IsRow (suc (suc level)) x → StepChains 1 x → sum (a_cochain x) ≡ half (sum (firsts x)) 0 + half (sum (seconds x)) 1
+sum-a : (level : ℕ) (x : List ℕ) → IsRow (suc (suc level)) x → StepChains 1 x
+    → sum (a_cochain x) ≡ half (sum (firsts x)) 0 + half (sum (seconds x)) 1
 sum-a level x e h =
     omega (
       arith,
@@ -134,7 +144,8 @@ sum-a level x e h =
       sum-seconds level (seconds x) (seconds-row (suc level) x e) h.1,
     )
 
-sum-b : (level : ℕ) (x : List ℕ) → IsRow (suc (suc level)) x → StepChains 1 x → sum (b_cochain x) ≡ half (sum (seconds x)) 0 + half (sum (firsts x)) 1
+sum-b : (level : ℕ) (x : List ℕ) → IsRow (suc (suc level)) x → StepChains 1 x
+    → sum (b_cochain x) ≡ half (sum (seconds x)) 0 + half (sum (firsts x)) 1
 sum-b level x e h =
     omega (
       arith,
@@ -148,9 +159,11 @@ sum-b level x e h =
 -- ---- the law
 
 -- a layer over two rows whose sums differ by at most one
-near-layer : (level : ℕ) (x y : List ℕ) → IsRow level x → IsRow level y → IsStep x → IsStep y → sum x ≤ sum y + 1 → sum y ≤ sum x + 1 → IsStep (layer x y)
+near-layer : (level : ℕ) (x y : List ℕ) → IsRow level x → IsRow level y → IsStep x → IsStep y → sum x ≤ sum y + 1 → sum y ≤ sum x + 1
+    → IsStep (layer x y)
 near-layer level x y e f s t p q =
-    subst IsStep (sym (ap₂ layer (step-tree level x e s) (step-tree level y f t) ∙ layer-tree level (sum x) (sum y) p q)) (tree_is-step (suc level) (sum x + sum y))
+    subst IsStep (sym (ap₂ layer (step-tree level x e s) (step-tree level y f t) ∙ layer-tree level (sum x) (sum y) p q))
+    (tree_is-step (suc level) (sum x + sum y))
 
 -- one balancer, over any two entries
 pair-is_step : (x y : List ℕ) → length x ≡ 1 → length y ≡ 1 → IsStep (layer x y)
@@ -170,9 +183,12 @@ block-chains (suc (suc level)) zero x l e h =
     let b = b-row (suc level) x e in
     let s = block-chains (suc level) zero (a_cochain x) (omega arith) a (steps-a x h) in
     let t = block-chains (suc level) zero (b_cochain x) (omega arith) b (steps-b x h) in
-    let m : sum (block (suc level) (a_cochain x)) ≡ half (sum (firsts x)) 0 + half (sum (seconds x)) 1 = sum-block (suc level) (a_cochain x) a ∙ sum-a level x e h in
-    let n : sum (block (suc level) (b_cochain x)) ≡ half (sum (seconds x)) 0 + half (sum (firsts x)) 1 = sum-block (suc level) (b_cochain x) b ∙ sum-b level x e h in
-    near-layer (suc level) (block (suc level) (a_cochain x)) (block (suc level) (b_cochain x)) (block-row (suc level) _ a) (block-row (suc level) _ b) s t (omega arith) (omega arith)
+    let m : sum (block (suc level) (a_cochain x)) ≡ half (sum (firsts x)) 0 + half (sum (seconds x)) 1 =
+    sum-block (suc level) (a_cochain x) a ∙ sum-a level x e h in
+    let n : sum (block (suc level) (b_cochain x)) ≡ half (sum (seconds x)) 0 + half (sum (firsts x)) 1 =
+    sum-block (suc level) (b_cochain x) b ∙ sum-b level x e h in
+    near-layer (suc level) (block (suc level) (a_cochain x)) (block (suc level) (b_cochain x)) (block-row (suc level) _ a)
+    (block-row (suc level) _ b) s t (omega arith) (omega arith)
 block-chains (suc level) (suc i) x l e h =
     let a = a_row level x e in
     let b = b-row level x e in
@@ -180,12 +196,15 @@ block-chains (suc level) (suc i) x l e h =
     let z' = block level (b_cochain x) in
     let s = block-chains level i (a_cochain x) (omega arith) a (chains-a i x h) in
     let t = block-chains level i (b_cochain x) (omega arith) b (chains-b i x h) in
-    let same = block-row level (a_cochain x) a ∙ sym (block-row level (b_cochain x) b) in
-    (subst (StepChains i) (sym (firsts-layer z z')) (chains-halves i 0 z z' same s t), subst (StepChains i) (sym (seconds-layer z z')) (chains-halves i 1 z z' same s t))
+    let same = block-row level (a_cochain x) a ∙ sym (block-row level (b_cochain x) b) in (
+      subst (StepChains i) (sym (firsts-layer z z')) (chains-halves i 0 z z' same s t),
+      subst (StepChains i) (sym (seconds-layer z z')) (chains-halves i 1 z z' same s t),
+    )
 
 pub block-step-chains : (level i : ℕ) (x : List ℕ) → i < level → IsRow level x → HasStepChains (suc i) x → HasStepChains i (block level x)
 block-step-chains level i x l e h =
-    by_place level i (block level x) (omega arith) (block-row level x e) (block-chains level i x l e (by_halves level (suc i) x (omega arith) e h))
+    by_place level i (block level x) (omega arith) (block-row level x e)
+    (block-chains level i x l e (by_halves level (suc i) x (omega arith) e h))
 
 -- ---- the block of two wires
 

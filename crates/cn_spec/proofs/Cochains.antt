@@ -20,7 +20,8 @@ length-in-turn (a ∷ []) t = refl
 length-in-turn (a ∷ b ∷ x) true = omega (arith, length-in-turn x false)
 length-in-turn (a ∷ b ∷ x) false = omega (arith, length-in-turn x true)
 
-get-or-in-turn : (x : List ℕ) (j : ℕ) → j < length x / 2 → (get_or (in_turn x true) j 0 ≡ get_or x (2 * j + j % 2) 0) × (get_or (in_turn x false) j 0 ≡ get_or x (2 * j + 1 - j % 2) 0)
+get-or-in-turn : (x : List ℕ) (j : ℕ) → j < length x / 2
+    → (get_or (in_turn x true) j 0 ≡ get_or x (2 * j + j % 2) 0) × (get_or (in_turn x false) j 0 ≡ get_or x (2 * j + 1 - j % 2) 0)
 get-or-in-turn [] j h = absurd (omega arith)
 get-or-in-turn (a ∷ []) j h = absurd (omega arith)
 get-or-in-turn (a ∷ b ∷ x) zero h = (refl, refl)
@@ -31,10 +32,12 @@ get-or-in-turn (a ∷ b ∷ x) (suc j) h =
     (rw k r.1, rw l r.0)
 
 pub a-in-turn : (x : List ℕ) → a_cochain x ≡ in_turn x true
-a-in-turn x = sym (fill_by_all (λ j. get_or x (2 * j + j % 2) 0) (in_turn x true) (length x / 2) 0 (length-in-turn x true) (λ j h. (get-or-in-turn x j h).0))
+a-in-turn x = sym (fill_by_all (λ j. get_or x (2 * j + j % 2) 0) (in_turn x true) (length x / 2) 0 (length-in-turn x true)
+    (λ j h. (get-or-in-turn x j h).0))
 
 pub b-in-turn : (x : List ℕ) → b_cochain x ≡ in_turn x false
-b-in-turn x = sym (fill_by_all (λ j. get_or x (2 * j + 1 - j % 2) 0) (in_turn x false) (length x / 2) 0 (length-in-turn x false) (λ j h. (get-or-in-turn x j h).1))
+b-in-turn x = sym (fill_by_all (λ j. get_or x (2 * j + 1 - j % 2) 0) (in_turn x false) (length x / 2) 0 (length-in-turn x false)
+    (λ j h. (get-or-in-turn x j h).1))
 
 -- ---- rows and sums
 
@@ -49,7 +52,14 @@ sum-in-turn n [] e = refl
 sum-in-turn n (a ∷ []) e = absurd (omega arith)
 sum-in-turn zero (a ∷ b ∷ x) e = absurd (omega arith)
 sum-in-turn (suc n) (a ∷ b ∷ x) e =
-    omega (arith, sum-in-turn n x (omega arith), sum_by-cons (λ (y : ℕ). y) a (in_turn x false), sum_by-cons (λ (y : ℕ). y) b (in_turn x true), sum_by-cons (λ (y : ℕ). y) a (b ∷ x), sum_by-cons (λ (y : ℕ). y) b x)
+    omega (
+      arith,
+      sum-in-turn n x (omega arith),
+      sum_by-cons (λ (y : ℕ). y) a (in_turn x false),
+      sum_by-cons (λ (y : ℕ). y) b (in_turn x true),
+      sum_by-cons (λ (y : ℕ). y) a (b ∷ x),
+      sum_by-cons (λ (y : ℕ). y) b x,
+    )
 
 pub sum-cochains : (level : ℕ) (x : List ℕ) → IsRow (suc level) x → sum (a_cochain x) + sum (b_cochain x) ≡ sum x
 sum-cochains level x e = rw (a-in-turn x, b-in-turn x) (sum-in-turn (2 ^ level) x (e ∙ pow-suc 2 level))

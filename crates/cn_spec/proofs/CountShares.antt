@@ -16,7 +16,8 @@ count_after w m i zero h =
     let same : share m w i ≡ share (m + 0) w i = ap (λ (n : ℕ). share n w i) (omega arith) in
     omega (arith, same)
 count_after w m i (suc k) h =
-    ap (λ (c : ℕ). c + share m w i) (ap (count_by is_of) (range_more 0 k ∙ ap (λ n. range_with_len 0 k ++ n ∷ []) (omega arith)) ∙ sum_by-append (λ n. cond (is_of n) 1 0) (range_with_len 0 k) (k ∷ []))
+    ap (λ (c : ℕ). c + share m w i) (ap (count_by is_of) (range_more 0 k ∙ ap (λ n. range_with_len 0 k ++ n ∷ []) (omega arith))
+    ∙ sum_by-append (λ n. cond (is_of n) 1 0) (range_with_len 0 k) (k ∷ []))
     ∙ each (eqb_tells ((m + k) % w) i) (count_after w m i k h)
   where
     is_of : ℕ → Bool
@@ -30,7 +31,8 @@ count_after w m i (suc k) h =
 
     each : ((eqb ((m + k) % w) i ≡ true) × ((m + k) % w ≡ i)) ⊎ ((eqb ((m + k) % w) i ≡ false) × ((m + k) % w ≢ i))
         → count_by is_of (range_with_len 0 k) + share m w i ≡ share (m + k) w i
-        → sum_by (λ n. cond (is_of n) 1 0) (range_with_len 0 k) + sum_by (λ n. cond (is_of n) 1 0) (k ∷ []) + share m w i ≡ share (m + suc k) w i
+        → sum_by (λ n. cond (is_of n) 1 0) (range_with_len 0 k) + sum_by (λ n. cond (is_of n) 1 0) (k ∷ []) + share m w i
+        ≡ share (m + suc k) w i
     each (inl c) before =
         let s = share-next (m + k) w i h (sym c.1) in
         let here : ◌≡◌ {A = ℕ} (cond (is_of k) 1 0) 1 = ap {B = ℕ} (λ q. cond q 1 0) c.0 in

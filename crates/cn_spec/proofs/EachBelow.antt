@@ -17,10 +17,14 @@ once-next m n = grind (arith, nat_tests)
 -- the greatest number put in anywhere
 pub each_more : (m : ℕ) (xs front back : List ℕ) → xs ≡ front ++ m ∷ back → IsEachBelow m (front ++ back) → IsEachBelow (suc m) xs
 each_more m xs front back e rest =
-    let last : range_with_len 0 (suc m) ≡ range_with_len 0 m ++ m ∷ [] = range_more 0 m ∙ ap (λ k. range_with_len 0 m ++ k ∷ []) (omega arith) in
-    let a : IsPermutation (range_with_len 0 m ++ m ∷ []) ((front ++ back) ++ m ∷ []) = IsPermutation-append_left (m ∷ []) (range_with_len 0 m) (front ++ back) rest in
-    let b : IsPermutation (front ++ (back ++ m ∷ [])) (front ++ m ∷ back) = IsPermutation-append_right front (back ++ m ∷ []) (m ∷ back) (IsPermutation-append_comm back (m ∷ [])) in
-    let c : IsPermutation ((front ++ back) ++ m ∷ []) (front ++ m ∷ back) = subst (λ ys. IsPermutation ys (front ++ m ∷ back)) (sym (append_assoc front back (m ∷ []))) b in
+    let last : range_with_len 0 (suc m) ≡ range_with_len 0 m ++ m ∷ [] =
+    range_more 0 m ∙ ap (λ k. range_with_len 0 m ++ k ∷ []) (omega arith) in
+    let a : IsPermutation (range_with_len 0 m ++ m ∷ []) ((front ++ back) ++ m ∷ []) =
+    IsPermutation-append_left (m ∷ []) (range_with_len 0 m) (front ++ back) rest in
+    let b : IsPermutation (front ++ (back ++ m ∷ [])) (front ++ m ∷ back) =
+    IsPermutation-append_right front (back ++ m ∷ []) (m ∷ back) (IsPermutation-append_comm back (m ∷ [])) in
+    let c : IsPermutation ((front ++ back) ++ m ∷ []) (front ++ m ∷ back) =
+    subst (λ ys. IsPermutation ys (front ++ m ∷ back)) (sym (append_assoc front back (m ∷ []))) b in
     subst₂ IsPermutation (sym last) (sym e) (IsPermutation-trans _ _ _ a c)
 
 pub each_below : (m : ℕ) (xs : List ℕ) → IsOnceBelow m xs → IsEachBelow m xs

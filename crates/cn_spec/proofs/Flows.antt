@@ -9,8 +9,10 @@ use Rattle.cn_spec.proofs.Cochains.{in_turn, a-in-turn, b-in-turn}
 
 -- ---- flows
 
-pub map-entries-at : (f p : ℕ → ℕ) (n m : ℕ) (x : List ℕ) → n ≡ m → ((j : ℕ) → j < n → p j < length x) → map f (entries_at p n x) ≡ entries_at p m (map f x)
-map-entries-at f p n m x e h = fill_by_all (λ j. get_or (map f x) (p j) 0) (map f (entries_at p n x)) m 0 (length-map (entries_at p n x) f ∙ length-map-range_with_len _ 0 n ∙ e) at
+pub map-entries-at : (f p : ℕ → ℕ) (n m : ℕ) (x : List ℕ) → n ≡ m → ((j : ℕ) → j < n → p j < length x)
+    → map f (entries_at p n x) ≡ entries_at p m (map f x)
+map-entries-at f p n m x e h = fill_by_all (λ j. get_or (map f x) (p j) 0) (map f (entries_at p n x)) m 0
+    (length-map (entries_at p n x) f ∙ length-map-range_with_len _ 0 n ∙ e) at
   where
     at : (k : ℕ) → k < m → get_or (map f (entries_at p n x)) k 0 ≡ get_or (map f x) (p k) 0
     at k l =

@@ -15,10 +15,18 @@ sum-layer [] [] e = refl
 sum-layer [] (b ∷ y) e = absurd (omega arith)
 sum-layer (a ∷ x) [] e = absurd (omega arith)
 sum-layer (a ∷ x) (b ∷ y) e =
-    omega (arith, sum-layer x y (omega arith), sum_by-cons (λ (y : ℕ). y) (half (a + b) 0) (half (a + b) 1 ∷ layer x y), sum_by-cons (λ (y : ℕ). y) (half (a + b) 1) (layer x y), sum_by-cons (λ (y : ℕ). y) a x, sum_by-cons (λ (y : ℕ). y) b y)
+    omega (
+      arith,
+      sum-layer x y (omega arith),
+      sum_by-cons (λ (y : ℕ). y) (half (a + b) 0) (half (a + b) 1 ∷ layer x y),
+      sum_by-cons (λ (y : ℕ). y) (half (a + b) 1) (layer x y),
+      sum_by-cons (λ (y : ℕ). y) a x,
+      sum_by-cons (λ (y : ℕ). y) b y,
+    )
 
 -- one more balancer
-pub layer-push : (x y : List ℕ) (a b : ℕ) → length x ≡ length y → layer (x ++ a ∷ []) (y ++ b ∷ []) ≡ layer x y ++ half (a + b) 0 ∷ half (a + b) 1 ∷ []
+pub layer-push : (x y : List ℕ) (a b : ℕ) → length x ≡ length y
+    → layer (x ++ a ∷ []) (y ++ b ∷ []) ≡ layer x y ++ half (a + b) 0 ∷ half (a + b) 1 ∷ []
 layer-push [] [] a b e = refl
 layer-push [] (d ∷ y) a b e = absurd (omega arith)
 layer-push (c ∷ x) [] a b e = absurd (omega arith)

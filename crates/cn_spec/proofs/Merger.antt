@@ -47,7 +47,8 @@ above-tree : (level a b : ℕ) → b ≤ a → a ≤ b + 1 → IsAbove (tree lev
 unfolding IsAbove tree
 above-tree zero a b p q = (p, q, tt)
 above-tree (suc level) a b p q =
-    above-interleave _ _ _ _ (above-tree level (half a 0) (half b 0) (omega arith) (omega arith)) (above-tree level (half a 1) (half b 1) (omega arith) (omega arith))
+    above-interleave _ _ _ _ (above-tree level (half a 0) (half b 0) (omega arith) (omega arith))
+    (above-tree level (half a 1) (half b 1) (omega arith) (omega arith))
 
 layer-above : (x y : List ℕ) → IsAbove x y → layer x y ≡ interleave x y
 unfolding IsAbove
@@ -93,13 +94,15 @@ merge-tree (suc level) a b =
     ∙ layer-tree (suc level) (half a 0 + half b 1) (half a 1 + half b 0) (omega arith) (omega arith)
     ∙ ap (tree (suc (suc level))) (omega arith)
 
-merge-step-tree : (level : ℕ) (x y : List ℕ) → IsRow level x → IsRow level y → IsStep x → IsStep y → merge level x y ≡ tree (suc level) (sum x + sum y)
+merge-step-tree : (level : ℕ) (x y : List ℕ) → IsRow level x → IsRow level y → IsStep x → IsStep y
+    → merge level x y ≡ tree (suc level) (sum x + sum y)
 merge-step-tree level x y e f s t = ap₂ (merge level) (step-tree level x e s) (step-tree level y f t) ∙ merge-tree level (sum x) (sum y)
 
 pub merge-is_step : (level : ℕ) (x y : List ℕ) → IsRow level x → IsRow level y → IsStep x → IsStep y → IsStep (merge level x y)
 merge-is_step level x y e f s t = subst IsStep (sym (merge-step-tree level x y e f s t)) (tree_is-step (suc level) (sum x + sum y))
 
-pub merge-shares : (level : ℕ) (x y : List ℕ) → IsRow level x → IsRow level y → IsStep x → IsStep y → merge level x y ≡ shares (sum x + sum y) (2 ^ suc level)
+pub merge-shares : (level : ℕ) (x y : List ℕ) → IsRow level x → IsRow level y → IsStep x → IsStep y
+    → merge level x y ≡ shares (sum x + sum y) (2 ^ suc level)
 merge-shares level x y e f s t = merge-step-tree level x y e f s t ∙ tree-shares (suc level) (sum x + sum y)
 
 -- ---- length and sum
@@ -122,7 +125,8 @@ sum-merge (suc level) x y e f =
     let oy = odds-row level y f in
     omega (
       arith,
-      sum-layer (merge level (evens x) (odds y)) (merge level (odds x) (evens y)) (merge-row level _ _ ex oy ∙ sym (merge-row level _ _ ox ey)),
+      sum-layer (merge level (evens x) (odds y)) (merge level (odds x) (evens y))
+          (merge-row level _ _ ex oy ∙ sym (merge-row level _ _ ox ey)),
       sum-merge level (evens x) (odds y) ex oy,
       sum-merge level (odds x) (evens y) ox ey,
       sum-evens-odds level x e,

@@ -73,9 +73,11 @@ names-stay : (m w i : ℕ) → i < w → i ≢ m % w → names_at (suc m) w i �
 names-stay m w i h e = ap (λ c. map (name_of w i) (range_with_len 0 c)) (share-stays m w i h e)
 
 -- f and g agree but at k, where g has one more
-same-flat-map : (f g : ℕ → List ℕ) (a n : ℕ) → ((i : ℕ) → a ≤ i → i < a + n → g i ≡ f i) → flat_map g (range_with_len a n) ≡ flat_map f (range_with_len a n)
+same-flat-map : (f g : ℕ → List ℕ) (a n : ℕ) → ((i : ℕ) → a ≤ i → i < a + n → g i ≡ f i)
+    → flat_map g (range_with_len a n) ≡ flat_map f (range_with_len a n)
 same-flat-map f g a zero e = refl
-same-flat-map f g a (suc n) e = ap₂ (λ s t. s ++ t) (e a (omega arith) (omega arith)) (same-flat-map f g (a + 1) n (λ i l h. e i (omega arith) (omega arith)))
+same-flat-map f g a (suc n) e = ap₂ (λ s t. s ++ t) (e a (omega arith) (omega arith))
+    (same-flat-map f g (a + 1) n (λ i l h. e i (omega arith) (omega arith)))
 
 one_more : (f g : ℕ → List ℕ) (k x a n : ℕ) → a ≤ k → k < a + n → g k ≡ f k ++ x ∷ [] → ((i : ℕ) → i < a + n → i ≢ k → g i ≡ f i)
     → IsPermutation (flat_map f (range_with_len a n) ++ x ∷ []) (flat_map g (range_with_len a n))
@@ -90,16 +92,20 @@ one_more f g k x a (suc n) l h e s = elim (here-or_later a k l) [ inl i ↦ here
 
     here : a ≡ k → IsPermutation (flat_map f (range_with_len a (suc n)) ++ x ∷ []) (flat_map g (range_with_len a (suc n)))
     here i =
-        let p : IsPermutation (f a ++ (rest ++ x ∷ [])) (f a ++ (x ∷ [] ++ rest)) = IsPermutation-append_right (f a) (rest ++ x ∷ []) (x ∷ [] ++ rest) (IsPermutation-append_comm rest (x ∷ [])) in
+        let p : IsPermutation (f a ++ (rest ++ x ∷ [])) (f a ++ (x ∷ [] ++ rest)) =
+        IsPermutation-append_right (f a) (rest ++ x ∷ []) (x ∷ [] ++ rest) (IsPermutation-append_comm rest (x ∷ [])) in
         let q : f a ++ (x ∷ [] ++ rest) ≡ flat_map g (range_with_len a (suc n)) =
         sym (append_assoc (f a) (x ∷ []) rest)
-        ∙ ap₂ (λ s t. s ++ t) (sym (ap g i ∙ e ∙ ap (λ j. f j ++ x ∷ []) (sym i))) (sym (same-flat-map f g (a + 1) n (λ j l h. s j (omega arith) (omega arith)))) in
+        ∙ ap₂ (λ s t. s ++ t) (sym (ap g i ∙ e ∙ ap (λ j. f j ++ x ∷ []) (sym i)))
+        (sym (same-flat-map f g (a + 1) n (λ j l h. s j (omega arith) (omega arith)))) in
         subst₂ IsPermutation (sym (append_assoc (f a) rest (x ∷ []))) q p
 
-    later : a < k → (a + 1 ≤ k → k < a + 1 + n → g k ≡ f k ++ x ∷ [] → ((i : ℕ) → i < a + 1 + n → i ≢ k → g i ≡ f i) → IsPermutation (rest ++ x ∷ []) (flat_map g (range_with_len (a + 1) n)))
+    later : a < k → (a + 1 ≤ k → k < a + 1 + n → g k ≡ f k ++ x ∷ [] → ((i : ℕ) → i < a + 1 + n → i ≢ k → g i ≡ f i)
+        → IsPermutation (rest ++ x ∷ []) (flat_map g (range_with_len (a + 1) n)))
         → IsPermutation (flat_map f (range_with_len a (suc n)) ++ x ∷ []) (flat_map g (range_with_len a (suc n)))
     later i ih =
-        subst₂ IsPermutation (sym (append_assoc (f a) rest (x ∷ []))) (ap (λ r. r ++ flat_map g (range_with_len (a + 1) n)) (sym (s a (omega arith) (omega arith))))
+        subst₂ IsPermutation (sym (append_assoc (f a) rest (x ∷ [])))
+        (ap (λ r. r ++ flat_map g (range_with_len (a + 1) n)) (sym (s a (omega arith) (omega arith))))
         (IsPermutation-append_right (f a) _ _ (ih (omega arith) (omega arith) e (λ j h n. s j (omega arith) n)))
 
 no_names : (w a n : ℕ) → a + n ≤ w → flat_map (names_at 0 w) (range_with_len a n) ≡ []
@@ -114,5 +120,7 @@ names-each_below zero w h = subst (IsPermutation []) (sym (no_names w 0 w (omega
 names-each_below (suc m) w h =
     let r : m % w < w = mod_below m w h in
     IsPermutation-trans _ _ _
-    (subst (λ xs. IsPermutation xs (names m w ++ m ∷ [])) (sym (range_more 0 m ∙ ap (λ k. range_with_len 0 m ++ k ∷ []) (omega arith))) (IsPermutation-append_left (m ∷ []) (range_with_len 0 m) (names m w) (names-each_below m w h)))
-    (one_more (names_at m w) (names_at (suc m) w) (m % w) m 0 w (omega arith) (omega arith) (names-next m w (m % w) r refl) (λ i l n. names-stay m w i (omega arith) n))
+    (subst (λ xs. IsPermutation xs (names m w ++ m ∷ [])) (sym (range_more 0 m ∙ ap (λ k. range_with_len 0 m ++ k ∷ []) (omega arith)))
+    (IsPermutation-append_left (m ∷ []) (range_with_len 0 m) (names m w) (names-each_below m w h)))
+    (one_more (names_at m w) (names_at (suc m) w) (m % w) m 0 w (omega arith) (omega arith) (names-next m w (m % w) r refl)
+    (λ i l n. names-stay m w i (omega arith) n))

@@ -38,7 +38,8 @@ pub get-or-seconds : (x : List ℕ) (i : ℕ) → i < length x / 2 → get_or (s
 get-or-seconds [] i h = absurd (omega arith)
 get-or-seconds (a ∷ []) i h = absurd (omega arith)
 get-or-seconds (a ∷ b ∷ x) zero h = refl
-get-or-seconds (a ∷ b ∷ x) (suc i) h = let k : 2 * suc i + 1 ≡ suc (suc (2 * i + 1)) = omega arith in rw k (get-or-seconds x i (omega arith))
+get-or-seconds (a ∷ b ∷ x) (suc i) h = let k : 2 * suc i + 1 ≡ suc (suc (2 * i + 1)) = omega arith in
+    rw k (get-or-seconds x i (omega arith))
 
 pub evens-firsts : (x : List ℕ) → evens x ≡ firsts x
 evens-firsts x = sym (fill_by_all (λ j. get_or x (2 * j) 0) (firsts x) (length x / 2) 0 (length-firsts x) (get-or-firsts x))
@@ -72,7 +73,14 @@ sum-firsts-seconds n [] e = refl
 sum-firsts-seconds n (a ∷ []) e = absurd (omega arith)
 sum-firsts-seconds zero (a ∷ b ∷ x) e = absurd (omega arith)
 sum-firsts-seconds (suc n) (a ∷ b ∷ x) e =
-    omega (arith, sum-firsts-seconds n x (omega arith), sum_by-cons (λ (y : ℕ). y) a (firsts x), sum_by-cons (λ (y : ℕ). y) b (seconds x), sum_by-cons (λ (y : ℕ). y) a (b ∷ x), sum_by-cons (λ (y : ℕ). y) b x)
+    omega (
+      arith,
+      sum-firsts-seconds n x (omega arith),
+      sum_by-cons (λ (y : ℕ). y) a (firsts x),
+      sum_by-cons (λ (y : ℕ). y) b (seconds x),
+      sum_by-cons (λ (y : ℕ). y) a (b ∷ x),
+      sum_by-cons (λ (y : ℕ). y) b x,
+    )
 
 -- ---- they keep the step property
 

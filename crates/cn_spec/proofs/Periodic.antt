@@ -20,7 +20,8 @@ sum-blocks (suc n) level x e = sum-blocks n level (block level x) (block-row lev
 blocks-is_step : (n level : ℕ) (x : List ℕ) → n ≤ level → IsRow level x → StepChains n x → IsStep (blocks n level x)
 unfolding blocks
 blocks-is_step zero level x l e h = h
-blocks-is_step (suc n) level x l e h = blocks-is_step n level (block level x) (omega arith) (block-row level x e) (block-chains level n x l e h)
+blocks-is_step (suc n) level x l e h = blocks-is_step n level (block level x) (omega arith) (block-row level x e)
+    (block-chains level n x l e h)
 
 pub periodic-row : (level : ℕ) (x : List ℕ) → IsRow level x → IsRow level (periodic level x)
 unfolding periodic
@@ -35,4 +36,5 @@ unfolding periodic
 periodic-is_step level x e = blocks-is_step level level x (le_refl level) e (all-step-chains level x e)
 
 pub periodic-shares : (level : ℕ) (x : List ℕ) → IsRow level x → periodic level x ≡ shares (sum x) (2 ^ level)
-periodic-shares level x e = row_steps level (sum x) (periodic level x) (periodic-row level x e) (sum-periodic level x e) (periodic-is_step level x e)
+periodic-shares level x e = row_steps level (sum x) (periodic level x) (periodic-row level x e) (sum-periodic level x e)
+    (periodic-is_step level x e)

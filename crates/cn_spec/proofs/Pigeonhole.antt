@@ -20,12 +20,21 @@ all_below (suc m) xs size there =
     each_more m xs front back e (all_below m (front ++ back) (omega (arith, size, long, length-append front back)) (λ n h.
     let whole : times n xs ≡ times n (front ++ m ∷ back) = ap (times n) e in
     let other : ◌≡◌ {A = ℕ} (cond (eqb m n) 1 0) 0 = ap {B = ℕ} (λ q. cond q 1 0) (ne_eqb m n (λ x. omega (arith, x, h))) in
-    omega (arith, there n (omega (arith, h)), whole, other, times-append n front (m ∷ back), times-cons n m back, times-append n front back)))
+    omega (
+      arith,
+      there n (omega (arith, h)),
+      whole,
+      other,
+      times-append n front (m ∷ back),
+      times-cons n m back,
+      times-append n front back,
+    )))
 
 once-range : (m n : ℕ) → times n (range_with_len 0 m) ≡ once_below m n
 once-range zero n = times-nil n ∙ grind (arith, nat_tests)
 once-range (suc m) n =
-    let last : range_with_len 0 (suc m) ≡ range_with_len 0 m ++ m ∷ [] = range_more 0 m ∙ ap (λ k. range_with_len 0 m ++ k ∷ []) (omega arith) in
+    let last : range_with_len 0 (suc m) ≡ range_with_len 0 m ++ m ∷ [] =
+    range_more 0 m ∙ ap (λ k. range_with_len 0 m ++ k ∷ []) (omega arith) in
     let list : times n (range_with_len 0 (suc m)) ≡ times n (range_with_len 0 m ++ m ∷ []) = ap (times n) last in
     omega (arith, list, once-range m n, once-next m n, times-append n (range_with_len 0 m) (m ∷ []), times-cons n m [], times-nil n)
 

@@ -9,7 +9,8 @@ use Rattle.cn_spec.specs.Step.{share, shares, IsStep}
 
 -- ---- sums of rows that are c + 1 below place n and c from there on
 
-sum-at_most : (c : ℕ) (x : List ℕ) (n : ℕ) → ((j : ℕ) → j < n → get_or x j 0 ≤ c + 1) → ((j : ℕ) → n ≤ j → j < length x → get_or x j 0 ≤ c) → sum x ≤ length x * c + n
+sum-at_most : (c : ℕ) (x : List ℕ) (n : ℕ) → ((j : ℕ) → j < n → get_or x j 0 ≤ c + 1) → ((j : ℕ) → n ≤ j → j < length x → get_or x j 0 ≤ c)
+    → sum x ≤ length x * c + n
 sum-at_most c [] n p q = omega arith
 sum-at_most c (a ∷ x) zero p q =
     let h : a ≤ c = q 0 (omega arith) (omega arith) in
@@ -17,18 +18,22 @@ sum-at_most c (a ∷ x) zero p q =
     omega (arith, sum_by-cons (λ (y : ℕ). y) a x)
 sum-at_most c (a ∷ x) (suc n) p q =
     let h : a ≤ c + 1 = p 0 (omega arith) in
-    let r : sum x ≤ length x * c + n = sum-at_most c x n (λ j l. p (suc j) (omega arith)) (λ j l m. q (suc j) (omega arith) (omega arith)) in
+    let r : sum x ≤ length x * c + n = sum-at_most c x n (λ j l. p (suc j) (omega arith))
+    (λ j l m. q (suc j) (omega arith) (omega arith)) in
     omega (arith, sum_by-cons (λ (y : ℕ). y) a x)
 
-sum-at_least : (c : ℕ) (x : List ℕ) (n : ℕ) → n ≤ length x → ((j : ℕ) → j < n → c + 1 ≤ get_or x j 0) → ((j : ℕ) → n ≤ j → j < length x → c ≤ get_or x j 0) → length x * c + n ≤ sum x
+sum-at_least : (c : ℕ) (x : List ℕ) (n : ℕ) → n ≤ length x → ((j : ℕ) → j < n → c + 1 ≤ get_or x j 0)
+    → ((j : ℕ) → n ≤ j → j < length x → c ≤ get_or x j 0) → length x * c + n ≤ sum x
 sum-at_least c [] n b p q = omega arith
 sum-at_least c (a ∷ x) zero b p q =
     let h : c ≤ a = q 0 (omega arith) (omega arith) in
-    let r : length x * c + 0 ≤ sum x = sum-at_least c x zero (omega arith) (λ j l. omega arith) (λ j l m. q (suc j) (omega arith) (omega arith)) in
+    let r : length x * c + 0 ≤ sum x = sum-at_least c x zero (omega arith) (λ j l. omega arith)
+    (λ j l m. q (suc j) (omega arith) (omega arith)) in
     omega (arith, sum_by-cons (λ (y : ℕ). y) a x)
 sum-at_least c (a ∷ x) (suc n) b p q =
     let h : c + 1 ≤ a = p 0 (omega arith) in
-    let r : length x * c + n ≤ sum x = sum-at_least c x n (omega arith) (λ j l. p (suc j) (omega arith)) (λ j l m. q (suc j) (omega arith) (omega arith)) in
+    let r : length x * c + n ≤ sum x = sum-at_least c x n (omega arith) (λ j l. p (suc j) (omega arith))
+    (λ j l m. q (suc j) (omega arith) (omega arith)) in
     omega (arith, sum_by-cons (λ (y : ℕ). y) a x)
 
 -- ---- places of `shares`
@@ -55,15 +60,20 @@ shares-at x s i h = go (get_or x i 0) refl
     up_to j l = elim (eq-or-lt_of_le l) [ inl e ↦ omega (arith, ap (λ k. get_or x k 0) e) | inr k ↦ s.no_less j i k h ]
 
     after : (j : ℕ) → i ≤ j → j < length x → (get_or x j 0 ≤ get_or x i 0) × (get_or x i 0 ≤ get_or x j 0 + 1)
-    after j l m = elim (eq-or-lt_of_le l) [ inl e ↦ (omega (arith, ap (λ k. get_or x k 0) e), omega (arith, ap (λ k. get_or x k 0) e)) | inr k ↦ (s.no_less i j k m, s.at_most_one_more i j k m) ]
+    after j l m = elim (eq-or-lt_of_le l) [
+      | inl e ↦ (omega (arith, ap (λ k. get_or x k 0) e), omega (arith, ap (λ k. get_or x k 0) e))
+      | inr k ↦ (s.no_less i j k m, s.at_most_one_more i j k m)
+    ]
 
     go : (c : ℕ) → get_or x i 0 ≡ c → c ≡ share (sum x) (length x) i
     go zero e =
         let u : sum x ≤ length x * 0 + i = sum-at_most 0 x i (λ j l. omega (arith, before j l)) (λ j l m. omega (arith, after j l m)) in
         sym (share-is (sum x) (length x) i 0 h (omega arith) (omega arith))
     go (suc c) e =
-        let u : sum x ≤ length x * suc c + i = sum-at_most (suc c) x i (λ j l. omega (arith, before j l)) (λ j l m. omega (arith, after j l m)) in
-        let v : length x * c + suc i ≤ sum x = sum-at_least c x (suc i) h (λ j l. omega (arith, e, up_to j (omega arith))) (λ j l m. omega (arith, after j (omega arith) m)) in
+        let u : sum x ≤ length x * suc c + i = sum-at_most (suc c) x i (λ j l. omega (arith, before j l))
+        (λ j l m. omega (arith, after j l m)) in
+        let v : length x * c + suc i ≤ sum x = sum-at_least c x (suc i) h (λ j l. omega (arith, e, up_to j (omega arith)))
+        (λ j l m. omega (arith, after j (omega arith) m)) in
         sym (share-is (sum x) (length x) i (suc c) h (omega arith) (omega arith))
 
 pub row_is-shares : (x : List ℕ) → IsStep x → x ≡ shares (sum x) (length x)
@@ -82,9 +92,11 @@ div_below a b w h l =
 pub shares-is_step : (m w : ℕ) → IsStep (shares m w)
 shares-is_step m w = record {
   no_less = λ i j l h. let k : j < w = omega (arith, length-shares m w) in
-      rw (get-or-shares m w i (omega arith), get-or-shares m w j k) (div_mono (m + w - 1 - j) (m + w - 1 - i) w (omega arith) (omega arith));
+      rw (get-or-shares m w i (omega arith), get-or-shares m w j k)
+      (div_mono (m + w - 1 - j) (m + w - 1 - i) w (omega arith) (omega arith));
   at_most_one_more = λ i j l h. let k : j < w = omega (arith, length-shares m w) in
-      rw (get-or-shares m w i (omega arith), get-or-shares m w j k) (div_below (m + w - 1 - i) (m + w - 1 - j) w (omega arith) (omega arith));
+      rw (get-or-shares m w i (omega arith), get-or-shares m w j k)
+      (div_below (m + w - 1 - i) (m + w - 1 - j) w (omega arith) (omega arith));
 }
 
 -- the shares are all of m
@@ -94,11 +106,16 @@ sum-shares m w h =
     let r = m % w in
     let e : q * w + r ≡ m = div-add-mod' m w in
     let below : r < w = mod_below m w h in
-    let large : (j : ℕ) → j < r → get_or (shares m w) j 0 ≡ q + 1 = λ j l. get-or-shares m w j (omega arith) ∙ share-is m w j (q + 1) (omega arith) (omega arith) (omega arith) in
+    let large : (j : ℕ) → j < r → get_or (shares m w) j 0 ≡ q + 1 =
+    λ j l. get-or-shares m w j (omega arith) ∙ share-is m w j (q + 1) (omega arith) (omega arith) (omega arith) in
     let small : (j : ℕ) → r ≤ j → j < length (shares m w) → get_or (shares m w) j 0 ≡ q =
-    λ j l k. let k' : j < w = omega (arith, length-shares m w) in get-or-shares m w j k' ∙ share-is m w j q k' (omega arith) (omega arith) in
-    let upper : sum (shares m w) ≤ length (shares m w) * q + r = sum-at_most q (shares m w) r (λ j l. omega (arith, large j l)) (λ j l k. omega (arith, small j l k)) in
-    let lower : length (shares m w) * q + r ≤ sum (shares m w) = sum-at_least q (shares m w) r (omega (arith, length-shares m w)) (λ j l. omega (arith, large j l)) (λ j l k. omega (arith, small j l k)) in
+    λ j l k. let k' : j < w = omega (arith, length-shares m w) in
+    get-or-shares m w j k' ∙ share-is m w j q k' (omega arith) (omega arith) in
+    let upper : sum (shares m w) ≤ length (shares m w) * q + r =
+    sum-at_most q (shares m w) r (λ j l. omega (arith, large j l)) (λ j l k. omega (arith, small j l k)) in
+    let lower : length (shares m w) * q + r ≤ sum (shares m w) =
+    sum-at_least q (shares m w) r (omega (arith, length-shares m w)) (λ j l. omega (arith, large j l))
+    (λ j l k. omega (arith, small j l k)) in
     omega (arith, upper, lower, e, ap (λ n. n * q) (length-shares m w))
 
 -- the step property, by the shares

@@ -5,7 +5,8 @@ use Rattle.std.proofs.lemmas.Bool.Decides.{nat_tests}
 use Rattle.std.proofs.lemmas.List.Sums.{sum_by-cons}
 use Rattle.cn_spec.specs.Sums.{when, one_more, total_where, sum_below}
 
-pub total-where-push : {A : Type 0} → (p : A → Bool) (xs : List A) (x : A) (f : ℕ → ℕ) → p x ≡ false → total_where p (xs ++ x ∷ []) f ≡ total_where p xs f
+pub total-where-push : {A : Type 0} → (p : A → Bool) (xs : List A) (x : A) (f : ℕ → ℕ) → p x ≡ false
+    → total_where p (xs ++ x ∷ []) f ≡ total_where p xs f
 unfolding total_where
 total-where-push p [] x f h = rw h (omega arith)
 total-where-push p (y ∷ xs) x f h = rw (total-where-push p xs x (λ u. f (suc u)) h)
@@ -21,7 +22,8 @@ total-where-set p (x ∷ xs) (suc i) y d f h =
     omega (arith, total-where-set p xs i y d (λ u. f (suc u)) k)
 
 -- no member passes
-pub total-where-none : {A : Type 0} → (p : A → Bool) (xs : List A) (d : A) (f : ℕ → ℕ) → ((i : ℕ) → i < length xs → p (get_or xs i d) ≡ false) → total_where p xs f ≡ 0
+pub total-where-none : {A : Type 0} → (p : A → Bool) (xs : List A) (d : A) (f : ℕ → ℕ)
+    → ((i : ℕ) → i < length xs → p (get_or xs i d) ≡ false) → total_where p xs f ≡ 0
 unfolding total_where
 total-where-none p [] d f h = refl
 total-where-none p (x ∷ xs) d f h =
@@ -29,20 +31,26 @@ total-where-none p (x ∷ xs) d f h =
     rw (head, zero-add) (total-where-none p xs d (λ u. f (suc u)) (λ i k. h (suc i) (omega arith)))
 
 -- only the places at which a member passes matter
-pub total-where-agree : {A : Type 0} → (p : A → Bool) (xs : List A) (d : A) (f g : ℕ → ℕ) → ((u : ℕ) → u < length xs → p (get_or xs u d) ≡ true → f u ≡ g u) → total_where p xs f ≡ total_where p xs g
+pub total-where-agree : {A : Type 0} → (p : A → Bool) (xs : List A) (d : A) (f g : ℕ → ℕ)
+    → ((u : ℕ) → u < length xs → p (get_or xs u d) ≡ true → f u ≡ g u) → total_where p xs f ≡ total_where p xs g
 unfolding total_where
 total-where-agree p [] d f g h = refl
 total-where-agree p (x ∷ xs) d f g h =
     let rest = total-where-agree p xs d (λ u. f (suc u)) (λ u. g (suc u)) (λ u k e. h (suc u) (omega arith) e) in
-    let first : when (p x) (f 0) ≡ when (p x) (g 0) = elim (p x) as (λ t. (t ≡ true → f 0 ≡ g 0) → when t (f 0) ≡ when t (g 0)) [ true ↦ λ k. k refl | false ↦ λ k. refl ] (h 0 (omega arith)) in
+    let first : when (p x) (f 0) ≡ when (p x) (g 0) =
+    elim (p x) as (λ t. (t ≡ true → f 0 ≡ g 0) → when t (f 0) ≡ when t (g 0)) [ true ↦ λ k. k refl | false ↦ λ k. refl ]
+    (h 0 (omega arith)) in
     rw (first, rest)
 
-pub total-where-mono : {A : Type 0} → (p : A → Bool) (xs : List A) (d : A) (f g : ℕ → ℕ) → ((u : ℕ) → u < length xs → p (get_or xs u d) ≡ true → f u ≤ g u) → total_where p xs f ≤ total_where p xs g
+pub total-where-mono : {A : Type 0} → (p : A → Bool) (xs : List A) (d : A) (f g : ℕ → ℕ)
+    → ((u : ℕ) → u < length xs → p (get_or xs u d) ≡ true → f u ≤ g u) → total_where p xs f ≤ total_where p xs g
 unfolding total_where
 total-where-mono p [] d f g h = omega arith
 total-where-mono p (x ∷ xs) d f g h =
     let rest = total-where-mono p xs d (λ u. f (suc u)) (λ u. g (suc u)) (λ u k e. h (suc u) (omega arith) e) in
-    let first : when (p x) (f 0) ≤ when (p x) (g 0) = elim (p x) as (λ t. (t ≡ true → f 0 ≤ g 0) → when t (f 0) ≤ when t (g 0)) [ true ↦ λ k. k refl | false ↦ λ k. omega arith ] (h 0 (omega arith)) in
+    let first : when (p x) (f 0) ≤ when (p x) (g 0) =
+    elim (p x) as (λ t. (t ≡ true → f 0 ≤ g 0) → when t (f 0) ≤ when t (g 0)) [ true ↦ λ k. k refl | false ↦ λ k. omega arith ]
+    (h 0 (omega arith)) in
     omega arith
 
 pub total-where-zero : {A : Type 0} → (p : A → Bool) (xs : List A) → total_where p xs (λ _. 0) ≡ 0
@@ -51,7 +59,8 @@ total-where-zero p [] = refl
 total-where-zero p (x ∷ xs) = rw (total-where-zero p xs) (elim (p x) as (λ t. when t 0 + 0 ≡ 0) [ true ↦ refl | false ↦ refl ])
 
 -- a term is at most the sum
-pub total-where-part : {A : Type 0} → (p : A → Bool) (xs : List A) (d : A) (f : ℕ → ℕ) (u : ℕ) → u < length xs → p (get_or xs u d) ≡ true → f u ≤ total_where p xs f
+pub total-where-part : {A : Type 0} → (p : A → Bool) (xs : List A) (d : A) (f : ℕ → ℕ) (u : ℕ) → u < length xs → p (get_or xs u d) ≡ true
+    → f u ≤ total_where p xs f
 unfolding total_where
 total-where-part p [] d f u h e = absurd (omega arith)
 total-where-part p (x ∷ xs) d f zero h e = rw e (omega arith)
@@ -63,14 +72,17 @@ pub total-where-parts : {A : Type 0} → (p : A → Bool) (xs : List A) (d : A) 
 unfolding total_where
 total-where-parts p [] d f u v h k n a b = absurd (omega arith)
 total-where-parts p (x ∷ xs) d f zero zero h k n a b = absurd (n refl)
-total-where-parts p (x ∷ xs) d f zero (suc v) h k n a b = let rest = total-where-part p xs d (λ w. f (suc w)) v (omega arith) b in rw a (omega arith)
-total-where-parts p (x ∷ xs) d f (suc u) zero h k n a b = let rest = total-where-part p xs d (λ w. f (suc w)) u (omega arith) a in rw b (omega arith)
+total-where-parts p (x ∷ xs) d f zero (suc v) h k n a b = let rest = total-where-part p xs d (λ w. f (suc w)) v (omega arith) b in
+    rw a (omega arith)
+total-where-parts p (x ∷ xs) d f (suc u) zero h k n a b = let rest = total-where-part p xs d (λ w. f (suc w)) u (omega arith) a in
+    rw b (omega arith)
 total-where-parts p (x ∷ xs) d f (suc u) (suc v) h k n a b =
     let rest = total-where-parts p xs d (λ w. f (suc w)) u v (omega arith) (omega arith) (λ e. n (ap suc e)) a b in
     omega arith
 
 -- a sum of which one term rises by x
-pub sum-below-change : (n w x : ℕ) (f g : ℕ → ℕ) → ((u : ℕ) → g u ≡ f u + cond (eqb u w) x 0) → sum_below n g ≡ sum_below n f + cond (ltb w n) x 0
+pub sum-below-change : (n w x : ℕ) (f g : ℕ → ℕ) → ((u : ℕ) → g u ≡ f u + cond (eqb u w) x 0)
+    → sum_below n g ≡ sum_below n f + cond (ltb w n) x 0
 unfolding sum_below
 sum-below-change zero w x f g each = grind (arith, nat_tests)
 sum-below-change (suc n) w x f g each = grind (arith, nat_tests, sum-below-change n w x f g each, each n)
@@ -86,7 +98,8 @@ sum-below-same zero f g h = refl
 sum-below-same (suc n) f g h = rw (sum-below-same n f g (λ u k. h u (omega arith)), h n (omega arith))
 
 -- one member more
-pub total-where-more : {A : Type 0} → (p : A → Bool) (xs : List A) (x : A) → total_where p (xs ++ x ∷ []) (λ _. 1) ≡ total_where p xs (λ _. 1) + when (p x) 1
+pub total-where-more : {A : Type 0} → (p : A → Bool) (xs : List A) (x : A)
+    → total_where p (xs ++ x ∷ []) (λ _. 1) ≡ total_where p xs (λ _. 1) + when (p x) 1
 unfolding total_where
 total-where-more p [] x = omega arith
 total-where-more p (y ∷ xs) x = omega (arith, total-where-more p xs x)
@@ -98,23 +111,27 @@ total-where-le p (x ∷ xs) =
     let rest = total-where-le p xs in
     elim (p x) as (λ t. when t 1 + total_where p xs (λ _. 1) ≤ length (x ∷ xs)) [ true ↦ omega arith | false ↦ omega arith ]
 
-pub total-where-map : {A B : Type 0} → (p : B → Bool) (g : A → B) (xs : List A) (f : ℕ → ℕ) → total_where p (map g xs) f ≡ total_where (λ x. p (g x)) xs f
+pub total-where-map : {A B : Type 0} → (p : B → Bool) (g : A → B) (xs : List A) (f : ℕ → ℕ)
+    → total_where p (map g xs) f ≡ total_where (λ x. p (g x)) xs f
 unfolding total_where
 total-where-map p g [] f = refl
 total-where-map p g (x ∷ xs) f = rw (total-where-map p g xs (λ u. f (suc u)))
 
 -- two tests that agree
-pub total-where-tests : {A : Type 0} → (p q : A → Bool) (xs : List A) (f : ℕ → ℕ) → ((x : A) → p x ≡ q x) → total_where p xs f ≡ total_where q xs f
+pub total-where-tests : {A : Type 0} → (p q : A → Bool) (xs : List A) (f : ℕ → ℕ) → ((x : A) → p x ≡ q x)
+    → total_where p xs f ≡ total_where q xs f
 unfolding total_where
 total-where-tests p q [] f h = refl
 total-where-tests p q (x ∷ xs) f h = rw (h x, total-where-tests p q xs (λ u. f (suc u)) h)
 
 -- one place passes
-pub total-where-one : {A : Type 0} → (p : A → Bool) (xs : List A) (w : ℕ) (d : A) (f : ℕ → ℕ) → w < length xs → p (get_or xs w d) ≡ true → ((u : ℕ) → u < length xs → p (get_or xs u d) ≡ true → u ≡ w) → total_where p xs f ≡ f w
+pub total-where-one : {A : Type 0} → (p : A → Bool) (xs : List A) (w : ℕ) (d : A) (f : ℕ → ℕ) → w < length xs → p (get_or xs w d) ≡ true
+    → ((u : ℕ) → u < length xs → p (get_or xs u d) ≡ true → u ≡ w) → total_where p xs f ≡ f w
 unfolding total_where
 total-where-one p [] w d f h e o = elim h [ ]
 total-where-one p (x ∷ xs) zero d f h e o =
-    let none = total-where-none p xs d (λ u. f (suc u)) (λ u k. false_from_ne_true (p (get_or xs u d)) (λ q. let z = o (suc u) (omega arith) q in omega arith)) in
+    let none = total-where-none p xs d (λ u. f (suc u))
+    (λ u k. false_from_ne_true (p (get_or xs u d)) (λ q. let z = o (suc u) (omega arith) q in omega arith)) in
     rw (e, none) (omega arith)
 total-where-one p (x ∷ xs) (suc w) d f h e o =
     let off : p x ≡ false = false_from_ne_true (p x) (λ q. let z = o 0 (omega arith) q in omega arith) in
@@ -127,7 +144,8 @@ pub total-where-shift : {A : Type 0} → (p : A → Bool) (xs : List A) (f a g b
 unfolding total_where
 total-where-shift p [] f a g b h = refl
 total-where-shift p (x ∷ xs) f a g b h =
-    let rest = total-where-shift p xs (λ u. f (suc u)) (λ u. a (suc u)) (λ u. g (suc u)) (λ u. b (suc u)) (λ u k. h (suc u) (omega arith)) in
+    let rest = total-where-shift p xs (λ u. f (suc u)) (λ u. a (suc u)) (λ u. g (suc u)) (λ u. b (suc u))
+    (λ u k. h (suc u) (omega arith)) in
     let first : when (p x) (f 0) + when (p x) (a 0) ≡ when (p x) (g 0) + when (p x) (b 0) =
     elim (p x) as (λ q. when q (f 0) + when q (a 0) ≡ when q (g 0) + when q (b 0)) [ true ↦ h 0 (omega arith) | false ↦ refl ] in
     omega arith
@@ -140,7 +158,8 @@ sum-below-plus zero f g = refl
 sum-below-plus (suc n) f g = omega (arith, sum-below-plus n f g)
 
 -- two sums that are shifted alike
-pub sum-below-shift : (n : ℕ) (f a g b : ℕ → ℕ) → ((u : ℕ) → u < n → f u + a u ≡ g u + b u) → sum_below n f + sum_below n a ≡ sum_below n g + sum_below n b
+pub sum-below-shift : (n : ℕ) (f a g b : ℕ → ℕ) → ((u : ℕ) → u < n → f u + a u ≡ g u + b u)
+    → sum_below n f + sum_below n a ≡ sum_below n g + sum_below n b
 sum-below-shift n f a g b h =
     sym (sum-below-plus n f a) ∙ sum-below-same n (λ u. f u + a u) (λ u. g u + b u) h ∙ sum-below-plus n g b
 
@@ -162,7 +181,8 @@ sum-below-next f n = let e : n + 1 ≡ suc n = omega arith in rw e refl
 pub sum-below-fewer : (f : ℕ → ℕ) (m n : ℕ) → m ≤ n → sum_below m f ≤ sum_below n f
 unfolding sum_below
 sum-below-fewer f m zero h = let e : m ≡ 0 = omega arith in rw e (omega arith)
-sum-below-fewer f m (suc n) h = elim (cases_eq m (suc n)) [ inl e ↦ rw e (omega arith) | inr d ↦ omega (arith, sum-below-fewer f m n (omega arith)) ]
+sum-below-fewer f m (suc n) h = elim (cases_eq m (suc n))
+    [ inl e ↦ rw e (omega arith) | inr d ↦ omega (arith, sum-below-fewer f m n (omega arith)) ]
 
 -- from the front
 pub sum-below-front : (n : ℕ) (f : ℕ → ℕ) → sum_below (suc n) f ≡ f 0 + sum_below n (λ u. f (suc u))
@@ -177,7 +197,8 @@ sum-below-pick zero b v g h = absurd (omega arith)
 sum-below-pick (suc n) b v g h =
     elim (cases_eq b n) [
       | inl e ↦
-          rw (sum-below-same n (λ c. when (eqb b c) v + g c) g (λ u k. rw (ne_eqb b u (λ q. omega arith)) (zero-add (g u))), eq-eqb b n e) (omega arith)
+          rw (sum-below-same n (λ c. when (eqb b c) v + g c) g (λ u k. rw (ne_eqb b u (λ q. omega arith)) (zero-add (g u))), eq-eqb b n e)
+          (omega arith)
       | inr d ↦ rw (sum-below-pick n b v g (omega arith), ne_eqb b n d) (omega arith)
     ]
 
@@ -192,7 +213,8 @@ sum-below-one n b v h =
 pub sum-below-part : (n b : ℕ) (f : ℕ → ℕ) → b < n → f b ≤ sum_below n f
 unfolding sum_below
 sum-below-part zero b f h = absurd (omega arith)
-sum-below-part (suc n) b f h = elim (cases_eq b n) [ inl e ↦ rw e (omega arith) | inr d ↦ omega (arith, sum-below-part n b f (omega arith)) ]
+sum-below-part (suc n) b f h = elim (cases_eq b n)
+    [ inl e ↦ rw e (omega arith) | inr d ↦ omega (arith, sum-below-part n b f (omega arith)) ]
 
 -- and two terms together are
 pub sum-below-parts : (n a b : ℕ) (f : ℕ → ℕ) → a < n → b < n → a ≢ b → f a + f b ≤ sum_below n f
@@ -217,7 +239,8 @@ sum-below-cut (suc n) m f h = elim (cases_eq m (suc n)) [
 
 module _ {X : Type 0} where
   -- sums in either order
-  pub sum-below-total : (g : ℕ → X → ℕ) (xs : List X) (n : ℕ) → sum_below n (λ k. sum_by (g k) xs) ≡ sum_by (λ x. sum_below n (λ k. g k x)) xs
+  pub sum-below-total : (g : ℕ → X → ℕ) (xs : List X) (n : ℕ)
+      → sum_below n (λ k. sum_by (g k) xs) ≡ sum_by (λ x. sum_below n (λ k. g k x)) xs
   sum-below-total g [] n = sum-below-zero n (λ _. 0) (λ _. refl)
   sum-below-total g (x ∷ xs) n =
       sum-below-same n (λ k. sum_by (g k) (x ∷ xs)) (λ k. g k x + sum_by (g k) xs) (λ k l. sum_by-cons (g k) x xs)
@@ -225,7 +248,8 @@ module _ {X : Type 0} where
       ∙ omega (arith, sum-below-total g xs n, sum_by-cons (λ y. sum_below n (λ k. g k y)) x xs)
 
   -- sums of the same terms
-  pub sum-by-same : (f g : X → ℕ) (xs : List X) (d : X) → ((i : ℕ) → i < length xs → f (get_or xs i d) ≡ g (get_or xs i d)) → sum_by f xs ≡ sum_by g xs
+  pub sum-by-same : (f g : X → ℕ) (xs : List X) (d : X) → ((i : ℕ) → i < length xs → f (get_or xs i d) ≡ g (get_or xs i d))
+      → sum_by f xs ≡ sum_by g xs
   sum-by-same f g [] d same = refl
   sum-by-same f g (x ∷ xs) d same =
       omega (arith, same 0 (omega arith), sum-by-same f g xs d (λ i h. same (suc i) (omega arith)), sum_by-cons f x xs, sum_by-cons g x xs)
@@ -239,5 +263,6 @@ zero_at (suc n) zero = refl
 zero_at (suc n) (suc i) = zero_at n i
 
 -- one more at a place
-pub one_more-at : (counts : List ℕ) (i j : ℕ) → i < length counts → slice_index (one_more counts i) j ≡ slice_index counts j + cond (nat_eq j i) 1 0
+pub one_more-at : (counts : List ℕ) (i j : ℕ) → i < length counts
+    → slice_index (one_more counts i) j ≡ slice_index counts j + cond (nat_eq j i) 1 0
 one_more-at counts i j lt = grind (arith, nat_tests, get_or-set_same, get_or-set_other)

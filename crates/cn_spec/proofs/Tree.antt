@@ -27,7 +27,9 @@ pub even-or-odd : (k : ℕ) → (k ≡ k / 2 + k / 2) ⊎ (k ≡ k / 2 + k / 2 +
 even-or-odd k = grind arith
 
 interleave-steps : (m h : ℕ) → interleave (shares (half m 0) h) (shares (half m 1) h) ≡ shares m (h * 2)
-interleave-steps m h = fill_by_all (share m (h * 2)) (interleave x y) (h * 2) 0 (omega (arith, length-interleave x y same, length-shares (half m 0) h)) (λ k l. elim (even-or-odd k) [ inl e ↦ even k l e | inr e ↦ odd k l e ])
+interleave-steps m h = fill_by_all (share m (h * 2)) (interleave x y) (h * 2) 0
+    (omega (arith, length-interleave x y same, length-shares (half m 0) h))
+    (λ k l. elim (even-or-odd k) [ inl e ↦ even k l e | inr e ↦ odd k l e ])
   where
     x : List ℕ
     x = shares (half m 0) h

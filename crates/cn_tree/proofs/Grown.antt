@@ -16,7 +16,8 @@ room_for-root k level h room = omega (arith, power_below level h, pow_pos (level
 
 -- ---- a tree of more than one wire: the root, the tree on its output 0, and the tree on its output 1
 
-module _ {d e : Plan} {wire first second level : ℕ} (more : 0 < level) (there : AllLoose d (wire ∷ [])) (root : Builds d e (wire ∷ []) (first ∷ second ∷ []) 1 1) where
+module _ {d e : Plan} {wire first second level : ℕ} (more : 0 < level) (there : AllLoose d (wire ∷ []))
+    (root : Builds d e (wire ∷ []) (first ∷ second ∷ []) 1 1) where
   outputs-loose : AllLoose e (first ∷ second ∷ [])
   outputs-loose = Builds-loose_with [] there root
 
@@ -66,9 +67,11 @@ made-suc d wire level root f s one two =
     let two' = rw s at two in
     rw (one', two') refl
 
-pub made_more : (d : Plan) (wire level : ℕ) {e g h : Plan} {first second : ℕ} {even odd : List ℕ} → 0 < level → e ≡ with_balancer d (wire ∷ [])
+pub made_more : (d : Plan) (wire level : ℕ) {e g h : Plan} {first second : ℕ} {even odd : List ℕ} → 0 < level
+    → e ≡ with_balancer d (wire ∷ [])
     → (first ≡ next_wire d) × (second ≡ first + 1)
-    → tree_made (level - 1) e first ≡ (g, even) → tree_made (level - 1) g second ≡ (h, odd) → tree_made level d wire ≡ (h, interleave even odd)
+    → tree_made (level - 1) e first ≡ (g, even) → tree_made (level - 1) g second ≡ (h, odd)
+    → tree_made level d wire ≡ (h, interleave even odd)
 made_more d wire zero more root wires one two = absurd (omega arith)
 made_more d wire (suc level) more root wires one two =
     let less : suc level - 1 ≡ level = omega arith in
@@ -76,5 +79,6 @@ made_more d wire (suc level) more root wires one two =
 
 -- ---- rows
 
-pub tree-row : (level : ℕ) (even odd : List ℕ) → 0 < level → IsRow (level - 1) even → IsRow (level - 1) odd → IsRow level (interleave even odd)
+pub tree-row : (level : ℕ) (even odd : List ℕ) → 0 < level → IsRow (level - 1) even → IsRow (level - 1) odd
+    → IsRow level (interleave even odd)
 tree-row level even odd more p q = omega (arith, length-interleave even odd (omega arith), power_below level more)

@@ -26,7 +26,8 @@ left-alone v token client wire is =
     by : (u : ℕ) → (length v.tokens - u) * length (on v.tokens u) ≡ when (eqb wire u) (length v.tokens - wire)
     by u = elim (cases_eq wire u) [
       | inl e ↦
-          let one : length (on v.tokens u) ≡ 1 = ap length (is.only u ∙ ap (last_on token client wire) (sym e) ∙ on-own token client wire) in
+          let one : length (on v.tokens u) ≡ 1 = ap length
+          (is.only u ∙ ap (last_on token client wire) (sym e) ∙ on-own token client wire) in
           rw (eq-eqb wire u e) (omega (arith, e, ap (λ (k : ℕ). (length v.tokens - u) * k) one))
       | inr d ↦
           let none : length (on v.tokens u) ≡ 0 = ap length (is.only u ∙ off-own token client wire u (λ e. d (sym e))) in
@@ -34,7 +35,8 @@ left-alone v token client wire is =
     ]
 
 -- passages are a part of a walk
-pub walks-alone : (a b : LaneValue) (token client wire to : ℕ) → IsAlone a.view.tokens token client wire → IsAlone b.view.tokens token client to → OnlyPassed a.view b.view
+pub walks-alone : (a b : LaneValue) (token client wire to : ℕ) → IsAlone a.view.tokens token client wire
+    → IsAlone b.view.tokens token client to → OnlyPassed a.view b.view
     → b.home ≡ a.home → b.room ≡ a.room → Walks a b []
 walks-alone a b token client wire to was is passed home room = record {
   home = home;
@@ -50,6 +52,7 @@ walks-alone a b token client wire to was is passed home room = record {
   );
 }
 
-pub no-more-left : (v w : View) (token client wire to : ℕ) → IsAlone v.tokens token client wire → IsAlone w.tokens token client to → OnlyPassed v w → wire ≤ to → steps_left w ≤ steps_left v
+pub no-more-left : (v w : View) (token client wire to : ℕ) → IsAlone v.tokens token client wire → IsAlone w.tokens token client to
+    → OnlyPassed v w → wire ≤ to → steps_left w ≤ steps_left v
 no-more-left v w token client wire to was is passed onward =
     omega (arith, onward, left-alone v token client wire was, left-alone w token client to is, passed.wires)

@@ -23,7 +23,8 @@ nodes (Halves' at p left q right) = nodes left + nodes right + 1
 -- what a lane that had nothing has is put last
 put_last : {X : Type 0} (a b xs ys : List X) → b ≡ [] → (a ++ xs) ++ (b ++ ys) ≡ (a ++ b) ++ (xs ++ ys)
 put_last a b xs ys none =
-    ap (λ (zs : List _). (a ++ xs) ++ (zs ++ ys)) none ∙ append_assoc a xs ys ∙ ap (λ (zs : List _). zs ++ (xs ++ ys)) (sym (append-nil a)) ∙ ap (λ (zs : List _). (a ++ zs) ++ (xs ++ ys)) (sym none)
+    ap (λ (zs : List _). (a ++ xs) ++ (zs ++ ys)) none ∙ append_assoc a xs ys ∙ ap (λ (zs : List _). zs ++ (xs ++ ys)) (sym (append-nil a))
+    ∙ ap (λ (zs : List _). (a ++ zs) ++ (xs ++ ys)) (sym none)
 
 pub both-walked : (a b c d : LaneValue) (xs ys : List Client) → HasNothing b → WalksAll a c xs → WalksAll b d ys
     → WalksAll (together a b) (together c d) (xs ++ ys)
@@ -37,7 +38,8 @@ both-walked a b c d xs ys none p q =
       out = p.out;
       quota = omega (arith, p.quota, q.quota, length-both xs ys);
       room = omega (arith, p.room, length-both xs ys, many, for2.as_many, ap length none.grants);
-      entries = (λ i. p.entries i ++ q.entries i) ∙ put_last a.view.entries b.view.entries (map entry xs) (map entry ys) none.entries ∙ ap (λ (es : List ℕ). (a.view.entries ++ b.view.entries) ++ es) (sym (map-append entry xs ys));
+      entries = (λ i. p.entries i ++ q.entries i) ∙ put_last a.view.entries b.view.entries (map entry xs) (map entry ys) none.entries
+          ∙ ap (λ (es : List ℕ). (a.view.entries ++ b.view.entries) ++ es) (sym (map-append entry xs ys));
       came = (λ i. p.came i ++ q.came i) ∙ put_last a.view.came b.view.came xs ys none.came;
       seen = λ i. max (p.seen i) (q.seen i);
       grants = (
@@ -67,28 +69,43 @@ pub first-later : (k w a b : ℕ) → 0 < w → a ≤ b → first_position k w a
 first-later k w a b some h = le-div (a * k / w) (b * k) w some (omega (arith, div-mul-le_self (a * k) w, mul-le-mul_right k h))
 
 -- workers before, or after, who have no clients: the lanes are of them too
-pub none_before : (k w from middle to : ℕ) (lanes : Lanes) → from ≤ middle → first_position k w middle ≡ first_position k w from → AreOf k w middle to lanes → AreOf k w from to lanes
-none_before k w from middle to (One lane worker) before same (low, high, first, last) = (omega (arith, before, low), high, first ∙ same, last)
-none_before k w from middle to (Halves' at p left q right) before same (m, low, high, is, some, less, one, two) =
-    (m, omega (arith, before, low), high, is ∙ ap (λ (n : ℕ). first_position k w m - n) same, some, omega (arith, less, same), none_before k w from middle m left before same one, two)
+pub none_before : (k w from middle to : ℕ) (lanes : Lanes) → from ≤ middle → first_position k w middle ≡ first_position k w from
+    → AreOf k w middle to lanes → AreOf k w from to lanes
+none_before k w from middle to (One lane worker) before same (low, high, first, last) =
+    (omega (arith, before, low), high, first ∙ same, last)
+none_before k w from middle to (Halves' at p left q right) before same (m, low, high, is, some, less, one, two) = (
+  m,
+  omega (arith, before, low),
+  high,
+  is ∙ ap (λ (n : ℕ). first_position k w m - n) same,
+  some,
+  omega (arith, less, same),
+  none_before k w from middle m left before same one,
+  two,
+)
 
-pub none_after : (k w from middle to : ℕ) (lanes : Lanes) → middle ≤ to → first_position k w middle ≡ first_position k w to → AreOf k w from middle lanes → AreOf k w from to lanes
+pub none_after : (k w from middle to : ℕ) (lanes : Lanes) → middle ≤ to → first_position k w middle ≡ first_position k w to
+    → AreOf k w from middle lanes → AreOf k w from to lanes
 none_after k w from middle to (One lane worker) after same (low, high, first, last) = (low, omega (arith, after, high), first, last ∙ same)
 none_after k w from middle to (Halves' at p left q right) after same (m, low, high, is, some, less, one, two) =
     (m, low, omega (arith, after, high), is, some, omega (arith, less, same), one, none_after k w m middle to right after same two)
 
 -- a lane for which more is reserved, of which some is split off, and the one that is split off
 pub reserved-nothing : (n : ℕ) (a b : LaneValue) → HasNothing a → b ≡ with_room n a → HasNothing b
-reserved-nothing n a b is same = subst HasNothing (sym same) (record { inside = is.inside; entries = is.entries; came = is.came; grants = is.grants })
+reserved-nothing n a b is same = subst HasNothing (sym same)
+    (record { inside = is.inside; entries = is.entries; came = is.came; grants = is.grants })
 
 pub left-nothing : (q : ℕ) (a b : LaneValue) → HasNothing a → b ≡ record a { view = after_look (after_split q a.view) } → HasNothing b
-left-nothing q a b is same = subst HasNothing (sym same) (record { inside = is.inside; entries = is.entries; came = is.came; grants = is.grants })
+left-nothing q a b is same = subst HasNothing (sym same)
+    (record { inside = is.inside; entries = is.entries; came = is.came; grants = is.grants })
 
 pub right-nothing : (q : ℕ) (a b : LaneValue) → b ≡ record (empty_lane a.home q) { view = after_look (split_off q a.view) } → HasNothing b
-right-nothing q a b same = subst HasNothing (sym same) (record { inside = nobody-in (length a.home.start.network.table.ends); entries = refl; came = refl; grants = refl })
+right-nothing q a b same = subst HasNothing (sym same)
+    (record { inside = nobody-in (length a.home.start.network.table.ends); entries = refl; came = refl; grants = refl })
 
 -- two halves that are ready
-pub both-ready : (home : FloorValue) (n at : ℕ) (left right : Lanes) → at ≤ n → n ≤ (whole left).room → AreReady home at left → AreReady home (n - at) right → IsReady home n (together (whole left) (whole right))
+pub both-ready : (home : FloorValue) (n at : ℕ) (left right : Lanes) → at ≤ n → n ≤ (whole left).room → AreReady home at left
+    → AreReady home (n - at) right → IsReady home n (together (whole left) (whole right))
 both-ready home n at left right h room a b =
     let x = whole-ready home at left a in
     let y = whole-ready home (n - at) right b in
@@ -105,7 +122,8 @@ both-ready home n at left right h room a b =
     }
 
 -- what a pair is ready for
-pub pair-ready : (home : FloorValue) (n at r : ℕ) (left right lanes : Lanes) → IsPair at left right lanes → at ≤ n → n ≤ (whole left).room → AreReady home at left → AreReady home r right → r ≡ n - at
+pub pair-ready : (home : FloorValue) (n at r : ℕ) (left right lanes : Lanes) → IsPair at left right lanes → at ≤ n → n ≤ (whole left).room
+    → AreReady home at left → AreReady home r right → r ≡ n - at
     → AreReady home n lanes
 pair-ready home n at r left right lanes is less room a b rest =
     let second : AreReady home (n - at) right = subst (λ (k : ℕ). AreReady home k right) rest b in

@@ -50,8 +50,10 @@ order-on a b c xs ys (more, grants, is) (later, grants2, is2) =
       more ++ later,
       grants2 ∙ ap (λ (gs : List Grant). gs ++ later) grants ∙ append_assoc a.view.grants more later,
       record {
-        clients_are = map-append client more later ∙ (λ i. is.clients_are i ++ is2.clients_are i) ∙ sym (map-append (λ (k : Client). k.id) xs ys);
-        names_are = map-append name more later ∙ (λ i. is.names_are i ++ is2.names_are i) ∙ ap (λ (k : ℕ). range_with_len m (length xs) ++ range_with_len k (length ys)) next
+        clients_are = map-append client more later ∙ (λ i. is.clients_are i ++ is2.clients_are i)
+            ∙ sym (map-append (λ (k : Client). k.id) xs ys);
+        names_are = map-append name more later ∙ (λ i. is.names_are i ++ is2.names_are i)
+            ∙ ap (λ (k : ℕ). range_with_len m (length xs) ++ range_with_len k (length ys)) next
             ∙ sym (range-both m (length xs) (length ys)) ∙ ap (λ (k : ℕ). range_with_len m k) (sym (length-both xs ys));
       },
     )
@@ -71,19 +73,27 @@ new-name m y old was is =
           absurd (omega (arith, now, one, other, once_each m old was y, once-next m y, times-append y old (y ∷ [])))
     ]
 
-of-one : (m : ℕ) (old : List ℕ) (xs : List Client) (more : List Grant) → length xs ≡ 1 → length more ≡ 1 → sum_by (λ (g : Grant). g.client) more ≡ sum_by (λ (k : Client). k.id) xs
+of-one : (m : ℕ) (old : List ℕ) (xs : List Client) (more : List Grant) → length xs ≡ 1 → length more ≡ 1
+    → sum_by (λ (g : Grant). g.client) more ≡ sum_by (λ (k : Client). k.id) xs
     → IsEachBelow m old → IsEachBelow (m + 1) (old ++ map (λ (g : Grant). g.name) more) → AreInOrder m xs more
 of-one m old [] more one single same was is = absurd (omega (arith, one))
 of-one m old (x ∷ []) [] one single same was is = absurd (omega (arith, single))
 of-one m old (x ∷ []) (g ∷ []) one single same was is =
-    let client : g.client ≡ x.id = omega (arith, same, sum_by-cons (λ (h : Grant). h.client) g [], sum_by-cons (λ (k : Client). k.id) x []) in
+    let client : g.client ≡ x.id = omega (
+      arith,
+      same,
+      sum_by-cons (λ (h : Grant). h.client) g [],
+      sum_by-cons (λ (k : Client). k.id) x [],
+    ) in
     record { clients_are = λ i. client i ∷ []; names_are = λ i. new-name m g.name old was is i ∷ [] }
 of-one m old (x ∷ []) (g ∷ h ∷ more) one single same was is = absurd (omega (arith, single))
 of-one m old (x ∷ y ∷ xs) more one single same was is = absurd (omega (arith, one))
 
 -- a client that walks alone in a lane with the whole quota gets the next name
-pub next-in-order : (start : Start) (a b : LaneValue) (xs : List Client) → IsStart start → length xs ≡ 1 → a.home.start ≡ start → Walks a b xs
-    → ((f : ℕ → ℕ) → inside_by f a.view ≡ 0) → ((f : ℕ → ℕ) → inside_by f b.view ≡ 0) → StoodInState start b.view → IsSole a → IsSole b × GrantsInOrder a b xs
+pub next-in-order : (start : Start) (a b : LaneValue) (xs : List Client) → IsStart start → length xs ≡ 1 → a.home.start ≡ start
+    → Walks a b xs
+    → ((f : ℕ → ℕ) → inside_by f a.view ≡ 0) → ((f : ℕ → ℕ) → inside_by f b.view ≡ 0) → StoodInState start b.view → IsSole a
+    → IsSole b × GrantsInOrder a b xs
 next-in-order start a b xs began one home walks before after (s, in_state) sole =
     let v : View = b.view in
     let m : ℕ = length a.view.grants in
@@ -91,15 +101,30 @@ next-in-order start a b xs began one home walks before after (s, in_state) sole 
     let (more, grants, even) = walks.grants in
     let e = ending-at start s in_state.id v (record { began = began; rule = in_state.kept }) in_state.here in
     let out : tokens_in v.tokens ≡ 0 =
-    sum-below-same (length v.tokens) (λ u. length (on v.tokens u)) (λ u. sum_by (λ (_ : ℕ × ℕ). 1) (on v.tokens u)) (λ u l. sym (ones (on v.tokens u))) ∙ after (λ _. 1) in
-    let entered : length v.entries ≡ length a.view.entries + length xs = ap length walks.entries ∙ length-both a.view.entries (map (λ (k : Client). k.entry) xs) ∙ ap (λ (k : ℕ). length a.view.entries + k) (length-map xs (λ (k : Client). k.entry)) in
-    let quota : start.quota ≤ v.quota + length v.entries = omega (arith, sole.quota, ap (λ (z : Start). z.quota) home, walks.quota, entered) in
+    sum-below-same (length v.tokens) (λ u. length (on v.tokens u)) (λ u. sum_by (λ (_ : ℕ × ℕ). 1) (on v.tokens u))
+    (λ u l. sym (ones (on v.tokens u))) ∙ after (λ _. 1) in
+    let entered : length v.entries ≡ length a.view.entries + length xs =
+    ap length walks.entries ∙ length-both a.view.entries (map (λ (k : Client). k.entry) xs)
+    ∙ ap (λ (k : ℕ). length a.view.entries + k) (length-map xs (λ (k : Client). k.entry)) in
+    let quota : start.quota ≤ v.quota + length v.entries =
+    omega (arith, sole.quota, ap (λ (z : Start). z.quota) home, walks.quota, entered) in
     let all = (in_state.kept.accounted in_state.id v in_state.here).all in
-    let names : IsEachBelow (length v.grants) (map name v.grants) = (e.closed_floor out (omega (arith, e.sole (omega (arith, quota, e.within)), all, out))).names in
+    let names : IsEachBelow (length v.grants) (map name v.grants) =
+    (e.closed_floor out (omega (arith, e.sole (omega (arith, quota, e.within)), all, out))).names in
     let single : length more ≡ 1 = omega (arith, even (λ _. 1), before (λ _. 1), after (λ _. 1), ones more, ones xs, one) in
-    let client : sum_by (λ (g : Grant). g.client) more ≡ sum_by (λ (k : Client). k.id) xs = omega (arith, even (λ k. k), before (λ k. k), after (λ k. k)) in
+    let client : sum_by (λ (g : Grant). g.client) more ≡ sum_by (λ (k : Client). k.id) xs =
+    omega (arith, even (λ k. k), before (λ k. k), after (λ k. k)) in
     let many : length v.grants ≡ m + 1 = ap length grants ∙ length-both a.view.grants more ∙ ap (λ (k : ℕ). m + k) single in
-    let listed : map name v.grants ≡ map name a.view.grants ++ map name more = ap (map name) grants ∙ map-append name a.view.grants more in (
-      record { quota = omega (arith, quota, ap (λ (z : Start). z.quota) home, ap (λ (h : FloorValue). h.start.quota) walks.home); names = names },
-      (more, grants, of-one m (map name a.view.grants) xs more one single client sole.names (subst (λ (z : ℕ × List ℕ). IsEachBelow z.0 z.1) (λ i. (many i, listed i)) names)),
+    let listed : map name v.grants ≡ map name a.view.grants ++ map name more =
+    ap (map name) grants ∙ map-append name a.view.grants more in (
+      record {
+        quota = omega (arith, quota, ap (λ (z : Start). z.quota) home, ap (λ (h : FloorValue). h.start.quota) walks.home);
+        names = names;
+      },
+      (
+        more,
+        grants,
+        of-one m (map name a.view.grants) xs more one single client sole.names
+            (subst (λ (z : ℕ × List ℕ). IsEachBelow z.0 z.1) (λ i. (many i, listed i)) names),
+      ),
     )

@@ -32,9 +32,15 @@ all-first k w some =
     omega (arith, one, none)
 
 -- a lane that is new has done nothing
-pub new-nothing : (home : FloorValue) (q : ℕ) (yard : Yard) (a : LaneValue) → a ≡ record (empty_lane home q) { yard = yard } → IsIdle home.start.network yard.lists → HasNothing a
+pub new-nothing : (home : FloorValue) (q : ℕ) (yard : Yard) (a : LaneValue) → a ≡ record (empty_lane home q) { yard = yard }
+    → IsIdle home.start.network yard.lists → HasNothing a
 new-nothing home q yard a is idle =
-    subst HasNothing (sym is) (record { inside = ap tokens_in idle ∙ nobody-in (length home.start.network.table.ends); entries = refl; came = refl; grants = refl })
+    subst HasNothing (sym is) (record {
+      inside = ap tokens_in idle ∙ nobody-in (length home.start.network.table.ends);
+      entries = refl;
+      came = refl;
+      grants = refl;
+    })
 
 -- a lane that has as many grants as the floor may let in misses nothing
 pub none-missing : (start : Start) (v : View) (entered : ℕ) → IsMissing start v entered → length v.grants ≡ start.quota → ⊥
@@ -58,12 +64,16 @@ module _ (q : QuietValue) (clients : List Client) (quiet : IsClosedFloor q.start
         came = omega (arith, quiet.came, many);
         counts = quiet.shares ∙ ap (λ (k : ℕ). shares_after (base q.start) k t.width) many;
         passes = λ f full is.
-            map-same (λ b. get_or q.words (1 + t.entries + b) 0 - get_or q.start.words (1 + t.entries + b) 0) (λ b. sum_at t (Balancer b) f - count_in t q.start.words (Balancer b)) 0 t.balancers
+            map-same (λ b. get_or q.words (1 + t.entries + b) 0 - get_or q.start.words (1 + t.entries + b) 0)
+            (λ b. sum_at t (Balancer b) f - count_in t q.start.words (Balancer b)) 0 t.balancers
             (λ b l h.
             let low : b < t.balancers = omega arith in
-            let all : Agree t.entries f (entered_in t q.words) = λ u less. omega (arith, is u less, quiet.entered u less, ap (λ (es : List ℕ). times u es) entries) in
-            let now : get_or q.words (1 + t.entries + b) 0 ≡ sum_at t (Balancer b) f = sym (count-word t q.words (Balancer b) low) ∙ quiet.tight.passes f full all b low in
-            let was : get_or q.start.words (1 + t.entries + b) 0 ≡ count_in t q.start.words (Balancer b) = sym (count-word t q.start.words (Balancer b) low) in
+            let all : Agree t.entries f (entered_in t q.words) =
+            λ u less. omega (arith, is u less, quiet.entered u less, ap (λ (es : List ℕ). times u es) entries) in
+            let now : get_or q.words (1 + t.entries + b) 0 ≡ sum_at t (Balancer b) f =
+            sym (count-word t q.words (Balancer b) low) ∙ quiet.tight.passes f full all b low in
+            let was : get_or q.start.words (1 + t.entries + b) 0 ≡ count_in t q.start.words (Balancer b) =
+            sym (count-word t q.start.words (Balancer b) low) in
             λ x. now x - was x);
         names = subst (λ (n : ℕ). IsEachBelow n (map (λ (g : Grant). g.name) q.did.grants)) many quiet.names;
         named = quiet.named;
@@ -82,14 +92,17 @@ all-theirs a b clients none is =
     )
 
 -- a floor that its lane closes, after a walk
-pub ran : (q : QuietValue) (start : Start) (a b : LaneValue) (clients : List Client) → q.start ≡ start → IsClosedFloor q.start q.did q.words → q.did ≡ b.view → HasNothing a → WalksAll a b clients → IsRunAfter (words_before start) clients q
+pub ran : (q : QuietValue) (start : Start) (a b : LaneValue) (clients : List Client) → q.start ≡ start → IsClosedFloor q.start q.did q.words
+    → q.did ≡ b.view → HasNothing a → WalksAll a b clients → IsRunAfter (words_before start) clients q
 ran q start a b clients same quiet did none is =
     let (entries, came, theirs) = all-theirs a b clients none is in
     subst (λ (s : Start). IsRunAfter (words_before s) clients q) same
-    (run_at q clients quiet (ap (λ (v : View). v.entries) did ∙ entries) (ap (λ (v : View). v.came) did ∙ came) (subst (λ (v : View). AreFor clients v.grants) (sym did) theirs))
+    (run_at q clients quiet (ap (λ (v : View). v.entries) did ∙ entries) (ap (λ (v : View). v.came) did ∙ came)
+    (subst (λ (v : View). AreFor clients v.grants) (sym did) theirs))
 
 -- after words that are all 0 it is a floor on which nobody else walked
-pub from-zero : (network : Network) (clients : List Client) (q : QuietValue) → IsRunAfter (zero_words network) clients q → IsRun network clients q
+pub from-zero : (network : Network) (clients : List Client) (q : QuietValue) → IsRunAfter (zero_words network) clients q
+    → IsRun network clients q
 from-zero network clients q is =
     let t : Table = network.table in
     let zero : WordsValue = zero_words network in
@@ -102,7 +115,8 @@ from-zero network clients q is =
           ∙ (ap (λ (m : ℕ). shares_after m k t.width) nobody ∙ first-shares k t.width);
       passes = λ f full from.
           is.passes f full (λ u l. omega (arith, from u l, none-entered t u))
-          ∙ map-same (λ b. sum_at t (Balancer b) f - count_in t zero.words (Balancer b)) (λ b. sum_at t (Balancer b) f) 0 t.balancers (λ b l h. omega (arith, none-counted t (Balancer b)));
+          ∙ map-same (λ b. sum_at t (Balancer b) f - count_in t zero.words (Balancer b)) (λ b. sum_at t (Balancer b) f) 0 t.balancers
+          (λ b l h. omega (arith, none-counted t (Balancer b)));
       names = is.names;
       named = λ j d l. let p = is.named j d l in (p.0, omega (arith, p.1, nobody));
       theirs = is.theirs;
@@ -114,11 +128,13 @@ from-zero network clients q is =
 pub new-sole : (home : FloorValue) (k : ℕ) (a : LaneValue) → home.start.quota ≡ k → IsReady home k a → IsSole a
 new-sole home k a whole ready = record {
   quota = omega (arith, whole, ready.quota, ap (λ (h : FloorValue). h.start.quota) ready.home_is);
-  names = subst (λ (gs : List Grant). IsEachBelow (length gs) (map (λ (g : Grant). g.name) gs)) (sym ready.nothing.grants) (IsPermutation-refl []);
+  names = subst (λ (gs : List Grant). IsEachBelow (length gs) (map (λ (g : Grant). g.name) gs)) (sym ready.nothing.grants)
+      (IsPermutation-refl []);
 }
 
 -- where the lane had nothing, its grants are in order if those of the walk are
 pub all-in-order : (a b : LaneValue) (clients : List Client) → HasNothing a → GrantsInOrder a b clients → AreInOrder 0 clients b.view.grants
 all-in-order a b clients none (more, grants, is) =
     let same : b.view.grants ≡ more = grants ∙ ap (λ (gs : List Grant). gs ++ more) none.grants in
-    subst (λ (gs : List Grant). AreInOrder 0 clients gs) (sym same) (subst (λ (n : ℕ). AreInOrder n clients more) (ap (λ (gs : List Grant). length gs) none.grants) is)
+    subst (λ (gs : List Grant). AreInOrder 0 clients gs) (sym same)
+    (subst (λ (n : ℕ). AreInOrder n clients more) (ap (λ (gs : List Grant). length gs) none.grants) is)

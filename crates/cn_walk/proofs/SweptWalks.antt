@@ -24,11 +24,13 @@ abbrev out-by : (ℕ → ℕ) → End → List (ℕ × ℕ) → ℕ
 out-by f (Balancer b) tokens = 0
 out-by f (Exit i) tokens = sum_by (λ e. f e.1) tokens
 
-granted-by : (f : ℕ → ℕ) (width less i n : ℕ) (tokens : List (ℕ × ℕ)) → sum_by (λ g. f g.client) (grants_out width less i n tokens) ≡ sum_by (λ e. f e.1) tokens
+granted-by : (f : ℕ → ℕ) (width less i n : ℕ) (tokens : List (ℕ × ℕ))
+    → sum_by (λ g. f g.client) (grants_out width less i n tokens) ≡ sum_by (λ e. f e.1) tokens
 unfolding grants_out
 granted-by f width less i n [] = refl
 granted-by f width less i n (e ∷ rest) =
-    sum_by-cons (λ (g : Grant). f g.client) (record { client = e.1; exit = i; visit = n; name = name_of width i n - less }) (grants_out width less i (n + 1) rest)
+    sum_by-cons (λ (g : Grant). f g.client) (record { client = e.1; exit = i; visit = n; name = name_of width i n - less })
+    (grants_out width less i (n + 1) rest)
     ∙ ap (λ (k : ℕ). f e.1 + k) (granted-by f width less i (n + 1) rest)
     ∙ sym (sum_by-cons (λ (x : ℕ × ℕ). f x.1) e rest)
 
@@ -44,7 +46,8 @@ module _ (start : Start) (wire : ℕ) (end : End) (formed : IsWellFormed start.n
   lands : (b n : ℕ) → end ≡ Balancer b → (v : View) (tokens : List (ℕ × ℕ)) → May v tokens
       → (output_wire v.start.network.table b (n % 2) < length v.tokens) × (wire < output_wire v.start.network.table b (n % 2))
   lands b n is v tokens may =
-      let same : output_wire v.start.network.table b (n % 2) ≡ output_wire t b (n % 2) = ap (λ (s : Start). output_wire s.network.table b (n % 2)) may.of in
+      let same : output_wire v.start.network.table b (n % 2) ≡ output_wire t b (n % 2) =
+      ap (λ (s : Start). output_wire s.network.table b (n % 2)) may.of in
       let two = mod_below n 2 (omega arith) in
       let forward : wire < t.entries + 2 * b = subst (LeadsOn t wire) (ends ∙ is) (formed.forward wire low) in
       let there : b < t.balancers = subst (Stands t) is stands in
@@ -72,15 +75,21 @@ module _ (start : Start) (wire : ℕ) (end : End) (formed : IsWellFormed start.n
       by (Exit i) = omega arith
   all-weigh f ((token, client) ∷ rest) v n may =
       let one = one-weighs f n token client v rest may in
-      let more = all-weigh f rest (after_step token client end n v) (n + 1) (rest-may start wire end formed low ends stands n v token client rest may) in
+      let more = all-weigh f rest (after_step token client end n v) (n + 1)
+      (rest-may start wire end formed low ends stands n v token client rest may) in
       omega (arith, one, more, parts end)
     where
       parts : (e : End) → out-by f e ((token, client) ∷ rest) ≡ out-by f e ((token, client) ∷ []) + out-by f e rest
       parts (Balancer b) = omega arith
-      parts (Exit i) = omega (arith, sum_by-cons (λ (x : ℕ × ℕ). f x.1) (token, client) rest, sum_by-cons (λ (x : ℕ × ℕ). f x.1) (token, client) [])
+      parts (Exit i) = omega (
+        arith,
+        sum_by-cons (λ (x : ℕ × ℕ). f x.1) (token, client) rest,
+        sum_by-cons (λ (x : ℕ × ℕ). f x.1) (token, client) [],
+      )
 
   -- less is left
-  one-less : (n token client : ℕ) (v : View) (rest : List (ℕ × ℕ)) → May v ((token, client) ∷ rest) → steps_left (after_step token client end n v) < steps_left v
+  one-less : (n token client : ℕ) (v : View) (rest : List (ℕ × ℕ)) → May v ((token, client) ∷ rest)
+      → steps_left (after_step token client end n v) < steps_left v
   one-less n token client v rest may = by end refl
     where
       is : IsThere v.tokens token client wire
@@ -105,7 +114,8 @@ module _ (start : Start) (wire : ℕ) (end : End) (formed : IsWellFormed start.n
         no-more rest (after_step token client end n v) (n + 1) (rest-may start wire end formed low ends stands n v token client rest may),
       )
 
-  pub less : (tokens : List (ℕ × ℕ)) (v : View) (n : ℕ) → May v tokens → 0 < length tokens → steps_left (after_steps end n tokens v) < steps_left v
+  pub less : (tokens : List (ℕ × ℕ)) (v : View) (n : ℕ) → May v tokens → 0 < length tokens
+      → steps_left (after_steps end n tokens v) < steps_left v
   unfolding after_steps
   less [] v n may some = absurd (omega (arith, some))
   less ((token, client) ∷ rest) v n may some =
@@ -116,7 +126,8 @@ module _ (start : Start) (wire : ℕ) (end : End) (formed : IsWellFormed start.n
       )
 
 -- a sweep is a part of a walk, and less is left after it
-module _ (a b : LaneValue) (wire n : ℕ) (answer : Sweep) (formed : IsWellFormed a.home.start.network.table) (is : SweepsOn a b wire n answer) (held : IsHeld a) (some : 0 < length (on a.yard.lists wire)) where
+module _ (a b : LaneValue) (wire n : ℕ) (answer : Sweep) (formed : IsWellFormed a.home.start.network.table)
+    (is : SweepsOn a b wire n answer) (held : IsHeld a) (some : 0 < length (on a.yard.lists wire)) where
   abbrev v : View
   v = a.view
 
@@ -126,7 +137,8 @@ module _ (a b : LaneValue) (wire n : ℕ) (answer : Sweep) (formed : IsWellForme
   inside : wire < length a.home.start.network.table.ends
   inside = omega (arith, some-inside a.yard.lists wire some, held.wires)
 
-  may : (e : End) (ends : end_of a.home.start.network.table wire ≡ e) (stands : Stands a.home.start.network.table e) → MayGo a.home.start wire e formed inside ends stands v tokens
+  may : (e : End) (ends : end_of a.home.start.network.table wire ≡ e) (stands : Stands a.home.start.network.table e)
+      → MayGo a.home.start wire e formed inside ends stands v tokens
   may e ends stands = record {
     on_wire = refl;
     once = λ k. subst (λ (ls : List (List (ℕ × ℕ))). times_in ls k ≤ 1) held.tokens (held.once k);
@@ -155,12 +167,18 @@ module _ (a b : LaneValue) (wire n : ℕ) (answer : Sweep) (formed : IsWellForme
         omega (arith, ap steps_left view, less a.home.start wire e formed inside ends stands tokens v n all some-tokens),
       )
     where
-      weighed : (e : End) (ends : end_of a.home.start.network.table wire ≡ e) (stands : Stands a.home.start.network.table e) → b.view ≡ after_sweep wire e n v → (f : ℕ → ℕ)
+      weighed : (e : End) (ends : end_of a.home.start.network.table wire ≡ e) (stands : Stands a.home.start.network.table e)
+          → b.view ≡ after_sweep wire e n v → (f : ℕ → ℕ)
           → inside_by f b.view + out-by f e tokens ≡ inside_by f v
       weighed e ends stands view f =
-          omega (arith, ap (λ (x : View). inside_by f x) view, all-weigh a.home.start wire e formed inside ends stands f tokens v n (may e ends stands))
+          omega (
+            arith,
+            ap (λ (x : View). inside_by f x) view,
+            all-weigh a.home.start wire e formed inside ends stands f tokens v n (may e ends stands),
+          )
 
-      granted : (e : End) (ends : end_of a.home.start.network.table wire ≡ e) (stands : Stands a.home.start.network.table e) → b.view ≡ after_sweep wire e n v
+      granted : (e : End) (ends : end_of a.home.start.network.table wire ≡ e) (stands : Stands a.home.start.network.table e)
+          → b.view ≡ after_sweep wire e n v
           → (more : List Grant) × (b.view.grants ≡ v.grants ++ more)
           × ((f : ℕ → ℕ) → sum_by (λ g. f g.client) more + inside_by f b.view ≡ inside_by f v + sum_by (λ (c : Client). f c.id) [])
       granted (Balancer c) ends stands view = (
@@ -184,6 +202,8 @@ module _ (a b : LaneValue) (wire n : ℕ) (answer : Sweep) (formed : IsWellForme
     where
       by : (e : End) → end_of a.home.start.network.table wire ≡ e → PutsAll a.home.start wire e n a.yard b.yard → on b.yard.lists u ≡ []
       by (Balancer c) ends dealt =
-          let forward : wire < a.home.start.network.table.entries + 2 * c = subst (LeadsOn a.home.start.network.table wire) ends (formed.forward wire inside) in
-          dealt.others u (λ same. omega (arith, same, low)) (λ same. omega (arith, same, low, forward)) (λ same. omega (arith, same, low, forward)) ∙ clear u low
+          let forward : wire < a.home.start.network.table.entries + 2 * c =
+          subst (LeadsOn a.home.start.network.table wire) ends (formed.forward wire inside) in
+          dealt.others u (λ same. omega (arith, same, low)) (λ same. omega (arith, same, low, forward))
+          (λ same. omega (arith, same, low, forward)) ∙ clear u low
       by (Exit i) ends cleared = cleared.others u (λ same. omega (arith, same, low)) ∙ clear u low

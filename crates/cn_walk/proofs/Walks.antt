@@ -50,7 +50,13 @@ walks-on a b c xs ys p q =
       grants = (
         more ++ later,
         grants2 ∙ ap (λ (gs : List Grant). gs ++ later) grants ∙ append_assoc a.view.grants more later,
-        λ f. omega (arith, even f, even2 f, sum_by-append (λ (g : Grant). f g.client) more later, sum_by-append (λ (k : Client). f k.id) xs ys),
+        λ f. omega (
+          arith,
+          even f,
+          even2 f,
+          sum_by-append (λ (g : Grant). f g.client) more later,
+          sum_by-append (λ (k : Client). f k.id) xs ys,
+        ),
       );
     }
 
@@ -64,18 +70,22 @@ pub record IsHeld (a : LaneValue) : Type 0 where
 
 -- ---- a client comes in
 
-came-by : (f : ℕ → ℕ) (token client entry : ℕ) (v : View) → entry < length v.tokens → inside_by f (after_enter token client entry v) ≡ inside_by f v + f client
+came-by : (f : ℕ → ℕ) (token client entry : ℕ) (v : View) → entry < length v.tokens
+    → inside_by f (after_enter token client entry v) ≡ inside_by f v + f client
 came-by f token client entry v inside =
     let m : ℕ = length v.tokens in
     let w : View = after_enter token client entry v in
     let weight : ℕ → ℕ = λ u. sum_by (λ (e : ℕ × ℕ). f e.1) (on v.tokens u) in
     let wires : length w.tokens ≡ m = length-map-range_with_len (λ u. on v.tokens u ++ last_on token client entry u) 0 m in
-    let same : sum_below m (λ u. sum_by (λ (e : ℕ × ℕ). f e.1) (on w.tokens u)) ≡ sum_below m (λ u. weight u + when (eqb entry u) (f client)) =
-    sum-below-same m (λ u. sum_by (λ (e : ℕ × ℕ). f e.1) (on w.tokens u)) (λ u. weight u + when (eqb entry u) (f client)) (λ u l. weigh-come v.tokens token client entry inside u (λ e. f e.1)) in
+    let same : sum_below m (λ u. sum_by (λ (e : ℕ × ℕ). f e.1) (on w.tokens u))
+    ≡ sum_below m (λ u. weight u + when (eqb entry u) (f client)) =
+    sum-below-same m (λ u. sum_by (λ (e : ℕ × ℕ). f e.1) (on w.tokens u)) (λ u. weight u + when (eqb entry u) (f client))
+    (λ u l. weigh-come v.tokens token client entry inside u (λ e. f e.1)) in
     ap (λ (k : ℕ). sum_below k (λ u. sum_by (λ (e : ℕ × ℕ). f e.1) (on w.tokens u))) wires ∙ same
     ∙ omega (arith, sum-below-plus m weight (λ u. when (eqb entry u) (f client)), sum-below-one m entry (f client) inside)
 
-pub comes : (a b : LaneValue) (token client entry : ℕ) → IsWellFormed a.home.start.network.table → IsHeld a → 0 < a.view.quota → entry < a.home.start.network.table.entries → LetsIn a b token client entry
+pub comes : (a b : LaneValue) (token client entry : ℕ) → IsWellFormed a.home.start.network.table → IsHeld a → 0 < a.view.quota
+    → entry < a.home.start.network.table.entries → LetsIn a b token client entry
     → Walks a b (record { id = client; entry = entry } ∷ [])
 comes a b token client entry formed held some low is =
     let wire : entry < length a.view.tokens = omega (arith, low, formed.wires, held.wires, ap length held.tokens) in
@@ -103,7 +113,9 @@ comes-next a b c i d xs l p is =
 
 module _ (token client wire n : ℕ) (v : View) (is : IsThere v.tokens token client wire) (f : ℕ → ℕ) where
   long : (end : End) → length (after_step token client end n v).tokens ≡ length v.tokens
-  long (Balancer b) = length-map-range_with_len (λ u. without token (get_or v.tokens u []) ++ last_on token client (output_wire v.start.network.table b (n % 2)) u) 0 (length v.tokens)
+  long (Balancer b) = length-map-range_with_len
+      (λ u. without token (get_or v.tokens u []) ++ last_on token client (output_wire v.start.network.table b (n % 2)) u) 0
+      (length v.tokens)
   long (Exit i) = length-map-range_with_len (λ u. without token (get_or v.tokens u []) ++ []) 0 (length v.tokens)
 
   pub passed_by : (b : ℕ) → Lands n v (Balancer b) → inside_by f (after_step token client (Balancer b) n v) ≡ inside_by f v
@@ -111,49 +123,68 @@ module _ (token client wire n : ℕ) (v : View) (is : IsThere v.tokens token cli
       let m : ℕ = length v.tokens in
       let w : View = after_step token client (Balancer b) n v in
       let to : ℕ = output_wire v.start.network.table b (n % 2) in
-      let moved = sum-below-shift m (λ u. sum_by (λ (e : ℕ × ℕ). f e.1) (on w.tokens u)) (λ u. when (eqb wire u) (f client)) (λ u. sum_by (λ (e : ℕ × ℕ). f e.1) (on v.tokens u)) (λ u. when (eqb to u) (f client))
+      let moved = sum-below-shift m (λ u. sum_by (λ (e : ℕ × ℕ). f e.1) (on w.tokens u)) (λ u. when (eqb wire u) (f client))
+      (λ u. sum_by (λ (e : ℕ × ℕ). f e.1) (on v.tokens u)) (λ u. when (eqb to u) (f client))
       (λ u l. weigh-pass v.tokens token client wire to is lands u (λ e. f e.1)) in
-      ap (λ (k : ℕ). sum_below k (λ u. sum_by (λ (e : ℕ × ℕ). f e.1) (on w.tokens u))) (long (Balancer b)) ∙ omega (arith, moved, sum-below-one m wire (f client) is.inside, sum-below-one m to (f client) lands)
+      ap (λ (k : ℕ). sum_below k (λ u. sum_by (λ (e : ℕ × ℕ). f e.1) (on w.tokens u))) (long (Balancer b))
+      ∙ omega (arith, moved, sum-below-one m wire (f client) is.inside, sum-below-one m to (f client) lands)
 
   pub left_by : (i : ℕ) → inside_by f (after_step token client (Exit i) n v) + f client ≡ inside_by f v
   left_by i =
       let m : ℕ = length v.tokens in
       let w : View = after_step token client (Exit i) n v in
-      let moved = sum-below-shift m (λ u. sum_by (λ (e : ℕ × ℕ). f e.1) (on w.tokens u)) (λ u. when (eqb wire u) (f client)) (λ u. sum_by (λ (e : ℕ × ℕ). f e.1) (on v.tokens u)) (λ u. 0)
+      let moved = sum-below-shift m (λ u. sum_by (λ (e : ℕ × ℕ). f e.1) (on w.tokens u)) (λ u. when (eqb wire u) (f client))
+      (λ u. sum_by (λ (e : ℕ × ℕ). f e.1) (on v.tokens u)) (λ u. 0)
       (λ u l. omega (arith, weigh-leave v.tokens token client wire is u (λ e. f e.1))) in
       let same = ap (λ (k : ℕ). sum_below k (λ u. sum_by (λ (e : ℕ × ℕ). f e.1) (on w.tokens u))) (long (Exit i)) in
       omega (arith, same, moved, sum-below-one m wire (f client) is.inside, sum-below-zero m (λ _. 0) (λ _. refl))
 
 -- how much less is left
-module _ (token client wire n : ℕ) (v : View) (is : IsThere v.tokens token client wire) (there : wire < length v.start.network.table.ends) where
-  abbrev g : ℕ → ℕ
-  g u = length v.tokens - u
+module _ (token client wire n : ℕ) (v : View) (is : IsThere v.tokens token client wire) (there : wire < length v.start.network.table.ends)
+  where
+    abbrev g : ℕ → ℕ
+    g u = length v.tokens - u
 
-  left : (end : End) → sum_below (length (after_step token client end n v).tokens) (λ u. g u * on_in u (after_step token client end n v)) ≡ steps_left (after_step token client end n v)
-  left end =
-      let w : View = after_step token client end n v in
-      ap (λ (k : ℕ). sum_below (length w.tokens) (λ u. (k - u) * on_in u w)) (sym (long token client wire n v is (λ _. 0) end))
+    left : (end : End) → sum_below (length (after_step token client end n v).tokens) (λ u. g u * on_in u (after_step token client end n v))
+        ≡ steps_left (after_step token client end n v)
+    left end =
+        let w : View = after_step token client end n v in
+        ap (λ (k : ℕ). sum_below (length w.tokens) (λ u. (k - u) * on_in u w)) (sym (long token client wire n v is (λ _. 0) end))
 
-  pub less-passed : (b : ℕ) → Lands n v (Balancer b) → wire < output_wire v.start.network.table b (n % 2) → steps_left (after_step token client (Balancer b) n v) < steps_left v
-  less-passed b lands on =
-      omega (arith, left (Balancer b), weighed-went v.start.network token client wire n v is there refl g (Balancer b) lands, at-one (length v.tokens) (output_wire v.start.network.table b (n % 2)) g lands)
+    pub less-passed : (b : ℕ) → Lands n v (Balancer b) → wire < output_wire v.start.network.table b (n % 2)
+        → steps_left (after_step token client (Balancer b) n v) < steps_left v
+    less-passed b lands on =
+        omega (
+          arith,
+          left (Balancer b),
+          weighed-went v.start.network token client wire n v is there refl g (Balancer b) lands,
+          at-one (length v.tokens) (output_wire v.start.network.table b (n % 2)) g lands,
+        )
 
-  pub less-left : (i : ℕ) → steps_left (after_step token client (Exit i) n v) < steps_left v
-  less-left i =
-      omega (arith, left (Exit i), weighed-went v.start.network token client wire n v is there refl g (Exit i) tt, at-none (length v.tokens) g, is.inside)
+    pub less-left : (i : ℕ) → steps_left (after_step token client (Exit i) n v) < steps_left v
+    less-left i =
+        omega (
+          arith,
+          left (Exit i),
+          weighed-went v.start.network token client wire n v is there refl g (Exit i) tt,
+          at-none (length v.tokens) g,
+          is.inside,
+        )
 
 -- ---- whole walks
 
 -- where no token stands, nobody weighs anything
 pub none_by : (a : LaneValue) → IsHeld a → tokens_in a.yard.lists ≡ 0 → (f : ℕ → ℕ) → inside_by f a.view ≡ 0
 none_by a held none f =
-    sum-below-zero (length a.view.tokens) (λ u. sum_by (λ (e : ℕ × ℕ). f e.1) (on a.view.tokens u)) (λ u. empty-by (on a.view.tokens u) (none-on a.view (inside-yard a.yard a.view held.tokens ∙ none) u))
+    sum-below-zero (length a.view.tokens) (λ u. sum_by (λ (e : ℕ × ℕ). f e.1) (on a.view.tokens u))
+    (λ u. empty-by (on a.view.tokens u) (none-on a.view (inside-yard a.yard a.view held.tokens ∙ none) u))
   where
     empty-by : (es : List (ℕ × ℕ)) → length es ≡ 0 → sum_by (λ (e : ℕ × ℕ). f e.1) es ≡ 0
     empty-by [] h = refl
     empty-by (e ∷ es) h = absurd (omega arith)
 
-pub walked : (a b : LaneValue) (xs : List Client) → Walks a b xs → tokens_in b.yard.lists ≡ 0 → ((f : ℕ → ℕ) → inside_by f a.view ≡ 0) → ((f : ℕ → ℕ) → inside_by f b.view ≡ 0)
+pub walked : (a b : LaneValue) (xs : List Client) → Walks a b xs → tokens_in b.yard.lists ≡ 0 → ((f : ℕ → ℕ) → inside_by f a.view ≡ 0)
+    → ((f : ℕ → ℕ) → inside_by f b.view ≡ 0)
     → WalksAll a b xs
 walked a b xs w out before after =
     let (more, grants, even) = w.grants in

@@ -13,28 +13,34 @@ pub record Counted (balancers width : ℕ) (ends : List End) (bs xs : List ℕ) 
   pub at_balancers : (b : ℕ) → b < balancers → get_or bs b 0 ≡ total_where (is_end (Balancer b)) (take i ends) (λ _. 1)
   pub at_exits : (j : ℕ) → j < width → get_or xs j 0 ≡ total_where (is_end (Exit j)) (take i ends) (λ _. 1)
 
-pub Counted-balancer : {balancers width : ℕ} {ends : List End} {bs xs : List ℕ} {i : ℕ} (c : ℕ) → i < length ends → get_or ends i (Balancer 0) ≡ Balancer c → c < balancers
+pub Counted-balancer : {balancers width : ℕ} {ends : List End} {bs xs : List ℕ} {i : ℕ} (c : ℕ) → i < length ends
+    → get_or ends i (Balancer 0) ≡ Balancer c → c < balancers
     → Counted balancers width ends bs xs i → Counted balancers width ends (set bs c (get_or bs c 0 + 1)) xs (i + 1)
 Counted-balancer {balancers} {width} {ends} {bs} {xs} {i} c h e k l = record {
   lens = let a = l.lens in (length-set bs c (get_or bs c 0 + 1) ∙ a.0, a.1);
   at_balancers = λ b m.
       rw (take_more ends i (Balancer 0) h, e, total-where-more (is_end (Balancer b)) (take i ends) (Balancer c))
       (elim (cases_eq c b) [
-        | inl q ↦ let a = l.lens in let here : c < length bs = omega arith in rw (← q, get_or-set_same bs c (get_or bs c 0 + 1) 0 here, eq-eqb c c refl, l.at_balancers c k)
+        | inl q ↦ let a = l.lens in let here : c < length bs = omega arith in
+            rw (← q, get_or-set_same bs c (get_or bs c 0 + 1) 0 here, eq-eqb c c refl, l.at_balancers c k)
         | inr d ↦ rw (get_or-set_other bs c b (get_or bs c 0 + 1) 0 (λ q. d (sym q)), ne_eqb c b d, l.at_balancers b m) (omega arith)
       ]);
-  at_exits = λ j m. rw (take_more ends i (Balancer 0) h, e, total-where-more (is_end (Exit j)) (take i ends) (Balancer c)) (omega (arith, l.at_exits j m));
+  at_exits = λ j m. rw (take_more ends i (Balancer 0) h, e, total-where-more (is_end (Exit j)) (take i ends) (Balancer c))
+      (omega (arith, l.at_exits j m));
 }
 
-pub Counted-exit : {balancers width : ℕ} {ends : List End} {bs xs : List ℕ} {i : ℕ} (c : ℕ) → i < length ends → get_or ends i (Balancer 0) ≡ Exit c → c < width
+pub Counted-exit : {balancers width : ℕ} {ends : List End} {bs xs : List ℕ} {i : ℕ} (c : ℕ) → i < length ends
+    → get_or ends i (Balancer 0) ≡ Exit c → c < width
     → Counted balancers width ends bs xs i → Counted balancers width ends bs (set xs c (get_or xs c 0 + 1)) (i + 1)
 Counted-exit {balancers} {width} {ends} {bs} {xs} {i} c h e k l = record {
   lens = let a = l.lens in (a.0, length-set xs c (get_or xs c 0 + 1) ∙ a.1);
-  at_balancers = λ j m. rw (take_more ends i (Balancer 0) h, e, total-where-more (is_end (Balancer j)) (take i ends) (Exit c)) (omega (arith, l.at_balancers j m));
+  at_balancers = λ j m. rw (take_more ends i (Balancer 0) h, e, total-where-more (is_end (Balancer j)) (take i ends) (Exit c))
+      (omega (arith, l.at_balancers j m));
   at_exits = λ b m.
       rw (take_more ends i (Balancer 0) h, e, total-where-more (is_end (Exit b)) (take i ends) (Exit c))
       (elim (cases_eq c b) [
-        | inl q ↦ let a = l.lens in let here : c < length xs = omega arith in rw (← q, get_or-set_same xs c (get_or xs c 0 + 1) 0 here, eq-eqb c c refl, l.at_exits c k)
+        | inl q ↦ let a = l.lens in let here : c < length xs = omega arith in
+            rw (← q, get_or-set_same xs c (get_or xs c 0 + 1) 0 here, eq-eqb c c refl, l.at_exits c k)
         | inr d ↦ rw (get_or-set_other xs c b (get_or xs c 0 + 1) 0 (λ q. d (sym q)), ne_eqb c b d, l.at_exits b m) (omega arith)
       ]);
 }
@@ -48,8 +54,11 @@ Counted-none balancers width ends = record {
 }
 
 -- a count is below 2 ^ 32 where the list is
-pub Counted-fits : {balancers width : ℕ} {ends : List End} {bs xs : List ℕ} {i : ℕ} → length ends < 2 ^ 32 → i < length ends → Counted balancers width ends bs xs i
+pub Counted-fits : {balancers width : ℕ} {ends : List End} {bs xs : List ℕ} {i : ℕ} → length ends < 2 ^ 32 → i < length ends
+    → Counted balancers width ends bs xs i
     → ((b : ℕ) → b < balancers → get_or bs b 0 + 1 < 2 ^ 32) × ((j : ℕ) → j < width → get_or xs j 0 + 1 < 2 ^ 32)
 Counted-fits {balancers} {width} {ends} {bs} {xs} {i} long h l =
-    let n = length-take-le i ends (omega arith) in
-    (λ b k. omega (arith, l.at_balancers b k, total-where-le (is_end (Balancer b)) (take i ends)), λ j k. omega (arith, l.at_exits j k, total-where-le (is_end (Exit j)) (take i ends)))
+    let n = length-take-le i ends (omega arith) in (
+      λ b k. omega (arith, l.at_balancers b k, total-where-le (is_end (Balancer b)) (take i ends)),
+      λ j k. omega (arith, l.at_exits j k, total-where-le (is_end (Exit j)) (take i ends)),
+    )

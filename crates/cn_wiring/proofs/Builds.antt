@@ -31,7 +31,8 @@ Builds-same d ws = record {
 }
 
 -- the same wires in another order
-pub Builds-like : {old new : Plan} {ins outs : List ℕ} {depth size : ℕ} (ins' : List ℕ) → ((w : ℕ) → times w ins' ≡ times w ins) → Builds old new ins outs depth size → Builds old new ins' outs depth size
+pub Builds-like : {old new : Plan} {ins outs : List ℕ} {depth size : ℕ} (ins' : List ℕ) → ((w : ℕ) → times w ins' ≡ times w ins)
+    → Builds old new ins outs depth size → Builds old new ins' outs depth size
 Builds-like {old} {new} {ins} {outs} {depth} {size} ins' same b = record {
   entries = b.entries;
   balancers = b.balancers;
@@ -43,7 +44,8 @@ Builds-like {old} {new} {ins} {outs} {depth} {size} ins' same b = record {
 }
 
 -- and the new wires in another order
-pub Builds-giving : {old new : Plan} {ins outs : List ℕ} {depth size : ℕ} (outs' : List ℕ) → ((w : ℕ) → times w outs' ≡ times w outs) → Builds old new ins outs depth size → Builds old new ins outs' depth size
+pub Builds-giving : {old new : Plan} {ins outs : List ℕ} {depth size : ℕ} (outs' : List ℕ) → ((w : ℕ) → times w outs' ≡ times w outs)
+    → Builds old new ins outs depth size → Builds old new ins outs' depth size
 Builds-giving {old} {new} {ins} {outs} {depth} {size} outs' same b = record {
   entries = b.entries;
   balancers = b.balancers;
@@ -54,10 +56,12 @@ Builds-giving {old} {new} {ins} {outs} {depth} {size} outs' same b = record {
   level = λ n a w k. b.level n a w (rw (same w) at k);
 }
 
-pub Builds-sized : {old new : Plan} {ins outs : List ℕ} {depth size : ℕ} (depth' size' : ℕ) → depth' ≡ depth → size' ≡ size → Builds old new ins outs depth size → Builds old new ins outs depth' size'
+pub Builds-sized : {old new : Plan} {ins outs : List ℕ} {depth size : ℕ} (depth' size' : ℕ) → depth' ≡ depth → size' ≡ size
+    → Builds old new ins outs depth size → Builds old new ins outs depth' size'
 Builds-sized depth' size' d s b = rw (d, s) b
 
-pub Builds-then : {a b c : Plan} {xs ys zs : List ℕ} {d e m n : ℕ} → Builds a b xs ys d m → Builds b c ys zs e n → Builds a c xs zs (d + e) (m + n)
+pub Builds-then : {a b c : Plan} {xs ys zs : List ℕ} {d e m n : ℕ} → Builds a b xs ys d m → Builds b c ys zs e n
+    → Builds a c xs zs (d + e) (m + n)
 Builds-then {a} {b} {c} {xs} {ys} {zs} {d} {e} {m} {n} p q = record {
   entries = q.entries ∙ p.entries;
   balancers = let h = p.balancers in let k = q.balancers in omega arith;
@@ -69,7 +73,8 @@ Builds-then {a} {b} {c} {xs} {ys} {zs} {d} {e} {m} {n} p q = record {
 }
 
 -- us stand in the first plan already
-pub Builds-beside : {a b c : Plan} {xs ys us vs : List ℕ} {d m n : ℕ} → AllLoose a (xs ++ us) → Builds a b xs ys d m → Builds b c us vs d n → Builds a c (xs ++ us) (ys ++ vs) d (m + n)
+pub Builds-beside : {a b c : Plan} {xs ys us vs : List ℕ} {d m n : ℕ} → AllLoose a (xs ++ us) → Builds a b xs ys d m → Builds b c us vs d n
+    → Builds a c (xs ++ us) (ys ++ vs) d (m + n)
 Builds-beside {a} {b} {c} {xs} {ys} {us} {vs} {d} {m} {n} there p q = record {
   entries = q.entries ∙ p.entries;
   balancers = let h = p.balancers in let k = q.balancers in omega arith;
@@ -79,9 +84,11 @@ Builds-beside {a} {b} {c} {xs} {ys} {us} {vs} {d} {m} {n} there p q = record {
   kept = λ l w k h. q.kept l w (let j = p.wires in omega arith) (p.kept l w k h);
   level = λ l h w k.
       elim (cases_lt 0 (times w ys)) [
-        | inl i ↦ q.kept (l + d) w (below_from-loose b.ends w (let t = there w in let j = p.loosed w in omega (arith, times-append w xs us)))
+        | inl i ↦ q.kept (l + d) w (below_from-loose b.ends w
+            (let t = there w in let j = p.loosed w in omega (arith, times-append w xs us)))
             (p.level l (λ u j. h u (omega (arith, times-append u xs us))) w i)
-        | inr i ↦ q.level l (λ u j. p.kept l u (below_from-loose a.ends u (let t = there u in omega (arith, times-append u xs us))) (h u (omega (arith, times-append u xs us)))) w (omega (arith, times-append w ys vs))
+        | inr i ↦ q.level l (λ u j. p.kept l u (below_from-loose a.ends u (let t = there u in omega (arith, times-append u xs us)))
+            (h u (omega (arith, times-append u xs us)))) w (omega (arith, times-append w ys vs))
       ];
 }
 
@@ -91,6 +98,7 @@ Builds-loose {a} {b} {xs} {ys} us there p w =
     let t = there w in let j = p.loosed w in omega (arith, times-append w xs us)
 
 -- and so are they with what came out
-pub Builds-loose_with : {a b : Plan} {xs ys : List ℕ} {d m : ℕ} (us : List ℕ) → AllLoose a (xs ++ us) → Builds a b xs ys d m → AllLoose b (ys ++ us)
+pub Builds-loose_with : {a b : Plan} {xs ys : List ℕ} {d m : ℕ} (us : List ℕ) → AllLoose a (xs ++ us) → Builds a b xs ys d m
+    → AllLoose b (ys ++ us)
 Builds-loose_with {a} {b} {xs} {ys} us there p w =
     let t = there w in let j = p.loosed w in omega (arith, times-append w xs us, times-append w ys us)

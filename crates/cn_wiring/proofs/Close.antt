@@ -25,7 +25,8 @@ exit-below es ws i h k = below_from-loose es (get_or ws i 0) (let a = h (get_or 
 
 none_there : (es : List (Option ℕ)) (ws : List ℕ) (i : ℕ) → AreLooseOnce es ws → i < length ws → get_or es (get_or ws i 0) (Some 0) ≡ None
 none_there es ws i h k =
-    elim (get_or es (get_or ws i 0) (Some 0)) as (λ o. 1 ≤ when (is_none o) 1 → o ≡ None) [ None ↦ λ _. refl | Some x ↦ λ l. absurd (omega arith) ]
+    elim (get_or es (get_or ws i 0) (Some 0)) as (λ o. 1 ≤ when (is_none o) 1 → o ≡ None)
+    [ None ↦ λ _. refl | Some x ↦ λ l. absurd (omega arith) ]
     (let a = h (get_or ws i 0) in let b = times-member ws i k in omega arith)
 
 -- the first i exits have their wires
@@ -36,7 +37,8 @@ pub record Closed (ends : List (Option ℕ)) (exits : List ℕ) (closed : List E
 pub Closed-none : (ends : List (Option ℕ)) (exits : List ℕ) (closed : List End) → map balancer_of closed ≡ ends → Closed ends exits closed 0
 Closed-none ends exits closed e = record { plan = e; at_exits = λ j l. absurd (omega arith) }
 
-pub Closed-more : (ends : List (Option ℕ)) (exits : List ℕ) (closed : List End) (i : ℕ) → AreLooseOnce ends exits → i < length exits → Closed ends exits closed i
+pub Closed-more : (ends : List (Option ℕ)) (exits : List ℕ) (closed : List End) (i : ℕ) → AreLooseOnce ends exits → i < length exits
+    → Closed ends exits closed i
     → Closed ends exits (set closed (get_or exits i 0) (Exit i)) (i + 1)
 Closed-more ends exits closed i h k c =
     let w : ℕ = get_or exits i 0 in
@@ -49,7 +51,8 @@ Closed-more ends exits closed i h k c =
           elim (cases_eq j i) [
             | inl e ↦ rw e (get_or-set_same closed w (Exit i) (Balancer 0) here)
             | inr d ↦
-                get_or-set_other closed w (get_or exits j 0) (Exit i) (Balancer 0) (λ e. let two = times-two exits j i (omega arith) k e in let a = h w in let m = at_most_one ends w in omega arith)
+                get_or-set_other closed w (get_or exits j 0) (Exit i) (Balancer 0)
+                (λ e. let two = times-two exits j i (omega arith) k e in let a = h w in let m = at_most_one ends w in omega arith)
                 ∙ c.at_exits j (omega arith)
           ];
     }
@@ -71,7 +74,8 @@ is-exit i (Balancer b) q = absurd (cc)
 is-exit i (Exit j) q = ap Exit (eqb-true j i q)
 
 -- a table whose plan is d, and in which exits, all loose wires of d, end in order
-module _ (t : Table) (d : Plan) (exits : List ℕ) (o : IsOrderly d) (plan : plan_of_table t ≡ d) (all : (w : ℕ) → times w exits ≡ loose d w) (order : EndsInOrder t exits) where
+module _ (t : Table) (d : Plan) (exits : List ℕ) (o : IsOrderly d) (plan : plan_of_table t ≡ d) (all : (w : ℕ) → times w exits ≡ loose d w)
+    (order : EndsInOrder t exits) where
   ends-map : map balancer_of t.ends ≡ d.ends
   ends-map = ap (λ e. e.ends) plan
 

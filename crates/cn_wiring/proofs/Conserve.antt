@@ -9,18 +9,27 @@ use Rattle.cn_wiring.specs.Table.{Table, is_end, sum_at, Stands, IsWellFormed, I
 
 -- each place of the list is at one balancer or at one exit
 pub count-twice : (t : Table) (xs : List End) (f : ℕ → ℕ) → ((u : ℕ) → u < length xs → Stands t (get_or xs u (Balancer 0)))
-    → sum_below t.balancers (λ b. total_where (is_end (Balancer b)) xs f) + sum_below t.width (λ i. total_where (is_end (Exit i)) xs f) ≡ sum_below (length xs) f
+    → sum_below t.balancers (λ b. total_where (is_end (Balancer b)) xs f) + sum_below t.width (λ i. total_where (is_end (Exit i)) xs f)
+    ≡ sum_below (length xs) f
 unfolding total_where
-count-twice t [] f h = omega (arith, sum-below-zero t.balancers (λ _. 0) (λ _. refl), sum-below-zero t.width (λ _. 0) (λ _. refl), sum-below-none f)
+count-twice t [] f h = omega (
+  arith,
+  sum-below-zero t.balancers (λ _. 0) (λ _. refl),
+  sum-below-zero t.width (λ _. 0) (λ _. refl),
+  sum-below-none f,
+)
 count-twice t (Balancer c ∷ xs) f h =
     let rest = count-twice t xs (λ u. f (suc u)) (λ u k. h (suc u) (omega arith)) in
     let first = sum-below-pick t.balancers c (f 0) (λ b. total_where (is_end (Balancer b)) xs (λ u. f (suc u))) (h 0 (omega arith)) in
-    let other : sum_below t.width (λ i. 0 + total_where (is_end (Exit i)) xs (λ u. f (suc u))) ≡ sum_below t.width (λ i. total_where (is_end (Exit i)) xs (λ u. f (suc u))) = sum-below-same t.width _ _ (λ u k. zero-add _) in
+    let other : sum_below t.width (λ i. 0 + total_where (is_end (Exit i)) xs (λ u. f (suc u)))
+    ≡ sum_below t.width (λ i. total_where (is_end (Exit i)) xs (λ u. f (suc u))) = sum-below-same t.width _ _ (λ u k. zero-add _) in
     omega (arith, sum-below-front (length xs) f)
 count-twice t (Exit j ∷ xs) f h =
     let rest = count-twice t xs (λ u. f (suc u)) (λ u k. h (suc u) (omega arith)) in
     let first = sum-below-pick t.width j (f 0) (λ i. total_where (is_end (Exit i)) xs (λ u. f (suc u))) (h 0 (omega arith)) in
-    let other : sum_below t.balancers (λ b. 0 + total_where (is_end (Balancer b)) xs (λ u. f (suc u))) ≡ sum_below t.balancers (λ b. total_where (is_end (Balancer b)) xs (λ u. f (suc u))) = sum-below-same t.balancers _ _ (λ u k. zero-add _) in
+    let other : sum_below t.balancers (λ b. 0 + total_where (is_end (Balancer b)) xs (λ u. f (suc u)))
+    ≡ sum_below t.balancers (λ b. total_where (is_end (Balancer b)) xs (λ u. f (suc u))) =
+    sum-below-same t.balancers _ _ (λ u k. zero-add _) in
     omega (arith, sum-below-front (length xs) f)
 
 -- the wires are the entries and the outputs
@@ -35,10 +44,12 @@ wires-sum t f p (suc n) k =
     let m : t.entries + 2 * suc n ≡ suc (suc (t.entries + 2 * n)) = omega arith in
     let e : t.entries + 2 * n + 1 ≡ suc (t.entries + 2 * n) = omega arith in
     let second : f (suc (t.entries + 2 * n)) ≡ half (sum_at t (Balancer n) f) 1 = rw e at halves.1 in
-    let two : sum_below (suc (suc (t.entries + 2 * n))) f ≡ sum_below (t.entries + 2 * n) f + f (t.entries + 2 * n) + f (suc (t.entries + 2 * n)) = refl in
+    let two : sum_below (suc (suc (t.entries + 2 * n))) f
+    ≡ sum_below (t.entries + 2 * n) f + f (t.entries + 2 * n) + f (suc (t.entries + 2 * n)) = refl in
     rw m (omega (arith, halves.0))
 
-pub full-flow-sum : (t : Table) → IsWellFormed t → (f : ℕ → ℕ) → IsFullFlow t f → sum_below t.width (λ i. sum_at t (Exit i) f) ≡ sum_below t.entries f
+pub full-flow-sum : (t : Table) → IsWellFormed t → (f : ℕ → ℕ) → IsFullFlow t f
+    → sum_below t.width (λ i. sum_at t (Exit i) f) ≡ sum_below t.entries f
 full-flow-sum t w f p =
     let a = count-twice t t.ends f w.stands in
     let b = wires-sum t f p t.balancers (omega arith) in

@@ -13,7 +13,10 @@ module _ (n : ℕ) where
       elim (cases_lt w n) [
         | inl l ↦ rw (get_or-replicate {A = Option ℕ} n w None (Some 0) l, times-inside w 0 n (omega arith) (omega arith))
         | inr g ↦
-            rw (get_or_past {X = Option ℕ} (replicate n None) w (Some 0) (omega (arith, length-replicate {A = Option ℕ} n None)), times-outside w 0 n (inr (omega arith)))
+            rw (
+              get_or_past {X = Option ℕ} (replicate n None) w (Some 0) (omega (arith, length-replicate {A = Option ℕ} n None)),
+              times-outside w 0 n (inr (omega arith)),
+            )
       ]
 
   ends-none : (u : ℕ) → get_or (entries_alone n).ends u None ≡ None

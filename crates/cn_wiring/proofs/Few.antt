@@ -33,11 +33,19 @@ unfolding sum_below
 one_more n f = refl
 
 -- the balancers up to b take what the wires before its outputs have, and what they take but b itself is gone on to wires
-pub full-flow-few : (t : Table) → IsWellFormed t → (f : ℕ → ℕ) → IsFullFlow t f → (end : End) → Stands t end → sum_at t end f ≤ sum_below t.entries f
+pub full-flow-few : (t : Table) → IsWellFormed t → (f : ℕ → ℕ) → IsFullFlow t f → (end : End) → Stands t end
+    → sum_at t end f ≤ sum_below t.entries f
 full-flow-few t w f flow (Exit i) h = omega (arith, full-flow-sum t w f flow, sum-below-part t.width i (λ j. sum_at t (Exit j) f) h)
 full-flow-few t w f flow (Balancer b) h =
     let m : ℕ = t.entries + 2 * b in
     let g : ℕ → ℕ = λ u. when (ltb u m) (f u) in
     let same = sum-below-same (suc b) (λ c. sum_at t (Balancer c) g) (λ c. sum_at t (Balancer c) f) (λ c k.
-    total-where-agree (is_end (Balancer c)) t.ends (Balancer 0) g f (λ u j e. let l = older t w c u j e in rw (lt-ltb u m (omega arith)) refl)) in
-    omega (arith, at_most_once (suc b) t.ends g, sum-below-cut (length t.ends) m f (omega (arith, w.wires)), wires-sum t f flow b (omega arith), one_more b (λ c. sum_at t (Balancer c) f))
+    total-where-agree (is_end (Balancer c)) t.ends (Balancer 0) g f
+    (λ u j e. let l = older t w c u j e in rw (lt-ltb u m (omega arith)) refl)) in
+    omega (
+      arith,
+      at_most_once (suc b) t.ends g,
+      sum-below-cut (length t.ends) m f (omega (arith, w.wires)),
+      wires-sum t f flow b (omega arith),
+      one_more b (λ c. sum_at t (Balancer c) f),
+    )

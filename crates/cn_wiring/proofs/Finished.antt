@@ -20,11 +20,13 @@ use Rattle.cn_wiring.proofs.Close.{flow-plan}
 pub draft-flow : (t : Table) (d : Plan) → plan_of_table t ≡ d → (f : ℕ → ℕ) → IsFullFlow t f → IsFlow d f
 draft-flow t d same f full = subst (λ p. IsFlow p f) same (flow-plan t f full)
 
-pub exits-flow : (t : Table) (outs : List ℕ) → t.width ≡ length outs → ((i : ℕ) (f : ℕ → ℕ) → i < length outs → sum_at t (Exit i) f ≡ f (get_or outs i 0))
+pub exits-flow : (t : Table) (outs : List ℕ) → t.width ≡ length outs
+    → ((i : ℕ) (f : ℕ → ℕ) → i < length outs → sum_at t (Exit i) f ≡ f (get_or outs i 0))
     → (f : ℕ → ℕ) → exit_flows t f ≡ map f outs
 exits-flow t outs wide at f =
     ap (λ n. map (λ i. sum_at t (Exit i) f) (range_with_len 0 n)) wide
-    ∙ sym (fill_by_all (λ i. sum_at t (Exit i) f) (map f outs) (length outs) 0 (length-map outs f) (λ i l. get_or-map f outs i 0 0 l ∙ sym (at i f l)))
+    ∙ sym (fill_by_all (λ i. sum_at t (Exit i) f) (map f outs) (length outs) 0 (length-map outs f)
+    (λ i l. get_or-map f outs i 0 0 l ∙ sym (at i f l)))
 
 -- ---- a draft of a whole network
 
@@ -37,7 +39,8 @@ pub record Drawn (d : Plan) (outs : List ℕ) (entries size depth level : ℕ) (
   pub deep : Each (HasLevel d depth) outs
   pub flow : (f : ℕ → ℕ) → IsFlow d f → map f outs ≡ row f
 
-outputs-each : {old new : Plan} {x y : List ℕ} {depth size : ℕ} → Builds old new x y depth size → ((w : ℕ) → loose old w ≡ times w x) → (w : ℕ) → times w y ≡ loose new w
+outputs-each : {old new : Plan} {x y : List ℕ} {depth size : ℕ} → Builds old new x y depth size → ((w : ℕ) → loose old w ≡ times w x)
+    → (w : ℕ) → times w y ≡ loose new w
 outputs-each built all w = let h = built.loosed w in let k = all w in omega arith
 
 -- a part over all entries of a new draft
@@ -54,13 +57,15 @@ drawn {old} {d} {x} {outs} {depth} {size} entries level row new all none built e
   flow = flow;
 }
 
-pub drawn-counts : {d : Plan} {outs : List ℕ} {entries size depth level : ℕ} {row : (ℕ → ℕ) → List ℕ} → Drawn d outs entries size depth level row
+pub drawn-counts : {d : Plan} {outs : List ℕ} {entries size depth level : ℕ} {row : (ℕ → ℕ) → List ℕ}
+    → Drawn d outs entries size depth level row
     → ((f : ℕ → ℕ) → IsStep (row f)) → (f : ℕ → ℕ) → IsFlow d f → IsStep (map f outs)
 drawn-counts drawing step f flow = subst IsStep (sym (drawing.flow f flow)) (step f)
 
 -- ---- the network that is finished of it
 
-pub drawn-built : {d : Plan} {outs : List ℕ} {entries size depth level : ℕ} {row : (ℕ → ℕ) → List ℕ} (n : Network) (kind : Kind) (width : ℕ) → width ≡ 2 ^ level → Drawn d outs entries size depth level row
+pub drawn-built : {d : Plan} {outs : List ℕ} {entries size depth level : ℕ} {row : (ℕ → ℕ) → List ℕ} (n : Network) (kind : Kind) (width : ℕ)
+    → width ≡ 2 ^ level → Drawn d outs entries size depth level row
     → IsTableOf n.table (d, outs) → (n.kind ≡ kind) × (n.depth ≡ depth) → IsNetwork n → IsBuilt n kind entries width size depth
 drawn-built n kind width wide drawing table named counts = record {
   kind = named.0;

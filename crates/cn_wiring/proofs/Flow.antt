@@ -11,13 +11,15 @@ use Rattle.cn_wiring.proofs.PlanFlow.{flow-exists, flow-unique, paths}
 use Rattle.cn_wiring.proofs.Tables.{orderly-table, plan-flow}
 
 -- a wire that ends at b is older than the outputs of b
-pub older : (t : Table) → IsWellFormed t → (b u : ℕ) → u < length t.ends → is_end (Balancer b) (get_or t.ends u (Balancer 0)) ≡ true → u < t.entries + 2 * b
+pub older : (t : Table) → IsWellFormed t → (b u : ℕ) → u < length t.ends → is_end (Balancer b) (get_or t.ends u (Balancer 0)) ≡ true
+    → u < t.entries + 2 * b
 older t w b u k e =
     elim (get_or t.ends u (Balancer 0)) as (λ x. LeadsOn t u x → is_end (Balancer b) x ≡ true → u < t.entries + 2 * b)
     [ Balancer c ↦ λ l q. let s = eqb-true c b q in omega arith | Exit i ↦ λ l q. absurd (cc) ]
     (w.forward u k) e
 
-pub full-flow-unique : (t : Table) → IsWellFormed t → (f g : ℕ → ℕ) → IsFullFlow t f → IsFullFlow t g → Agree t.entries f g → Agree (t.entries + 2 * t.balancers) f g
+pub full-flow-unique : (t : Table) → IsWellFormed t → (f g : ℕ → ℕ) → IsFullFlow t f → IsFullFlow t g → Agree t.entries f g
+    → Agree (t.entries + 2 * t.balancers) f g
 full-flow-unique t w f g p q h = flow-unique (plan_of_table t) (orderly-table t w) f g (flow-plan t f p) (flow-plan t g q) h
 
 pub full-flow-exists : (t : Table) → IsWellFormed t → (x : ℕ → ℕ) → (f : ℕ → ℕ) × IsFullFlow t f × Agree t.entries f x

@@ -28,7 +28,10 @@ total-grown : (d : Plan) (ws : List ℕ) (c : ℕ) (f : ℕ → ℕ) → AllLoos
     → passages (grown d ws) c f ≡ passages d c f + when (eqb d.balancers c) (sum_by f ws)
 unfolding AllLooseIn
 total-grown d ws c f h =
-    rw (total-where-push (ends_at c) (mark d.ends ws d.balancers ++ None ∷ []) None f refl, total-where-push (ends_at c) (mark d.ends ws d.balancers) None f refl)
+    rw (
+      total-where-push (ends_at c) (mark d.ends ws d.balancers ++ None ∷ []) None f refl,
+      total-where-push (ends_at c) (mark d.ends ws d.balancers) None f refl,
+    )
     (total-mark d.ends ws d.balancers c f h)
 
 -- the older balancers have the passages that they had
@@ -70,10 +73,12 @@ loosed-grown d ws o h w =
     omega arith
 
 -- an end of the new plan, by the marked list
-end-grown : (d : Plan) (ws : List ℕ) (u b : ℕ) → get_or (grown d ws).ends u None ≡ Some b → get_or (mark d.ends ws d.balancers) u None ≡ Some b
+end-grown : (d : Plan) (ws : List ℕ) (u b : ℕ) → get_or (grown d ws).ends u None ≡ Some b
+    → get_or (mark d.ends ws d.balancers) u None ≡ Some b
 end-grown d ws u b e = get-or-push-none _ u b (get-or-push-none _ u b e)
 
-old-path : (d : Plan) (ws : List ℕ) → IsOrderly d → AllLoose d ws → (w : ℕ) (us : List ℕ) → w < length d.ends → IsPath (grown d ws) w us → IsPath d w us
+old-path : (d : Plan) (ws : List ℕ) → IsOrderly d → AllLoose d ws → (w : ℕ) (us : List ℕ) → w < length d.ends → IsPath (grown d ws) w us
+    → IsPath d w us
 unfolding AllLooseIn
 old-path d ws o h w [] k p = p
 old-path d ws o h w (u ∷ us) k p =
@@ -83,7 +88,8 @@ old-path d ws o h w (u ∷ us) k p =
     let was : get_or d.ends u None ≡ Some b = mark-other d.ends ws d.balancers u b (λ e. omega arith) h (end-grown d ws u b p.0.1) in
     ((b, was, p.0.2), old-path d ws o h u us (below_from-end d.ends u b was) p.1)
 
-kept-grown : (d : Plan) (ws : List ℕ) → IsOrderly d → AllLoose d ws → (n w : ℕ) → w < length d.ends → HasLevel d n w → HasLevel (grown d ws) n w
+kept-grown : (d : Plan) (ws : List ℕ) → IsOrderly d → AllLoose d ws → (n w : ℕ) → w < length d.ends → HasLevel d n w
+    → HasLevel (grown d ws) n w
 kept-grown d ws o h n w k l us p = l us (old-path d ws o h w us k p)
 
 one_of_two : (w x y : ℕ) → 1 ≤ times w (x ∷ y ∷ []) → (w ≡ x) ⊎ (w ≡ y)
@@ -98,7 +104,8 @@ one_of_two w x y k =
       ]
     ]
 
-level-grown : (d : Plan) (ws : List ℕ) → IsOrderly d → AllLoose d ws → (n q w : ℕ) → q < 2 → w ≡ next_wire d + q → Each (HasLevel d n) ws → HasLevel (grown d ws) (n + 1) w
+level-grown : (d : Plan) (ws : List ℕ) → IsOrderly d → AllLoose d ws → (n q w : ℕ) → q < 2 → w ≡ next_wire d + q → Each (HasLevel d n) ws
+    → HasLevel (grown d ws) (n + 1) w
 unfolding AllLooseIn
 level-grown d ws o h n q w k at a [] p = absurd (omega arith)
 level-grown d ws o h n q w k at a (u ∷ us) p =
@@ -106,17 +113,24 @@ level-grown d ws o h n q w k at a (u ∷ us) p =
     let wires = o.wires in
     let same : b ≡ d.balancers = elim p.0.2 [ inl e ↦ omega arith | inr e ↦ omega arith ] in
     let found : get_or (mark d.ends ws d.balancers) u None ≡ Some d.balancers = rw same at (end-grown d ws u b p.0.1) in
-    let inside : 1 ≤ times u ws = elim (mark-at d.ends ws d.balancers u found) [ inl t ↦ absurd (let x = (o.ends u d.balancers t).0 in omega arith) | inr t ↦ t ] in
+    let inside : 1 ≤ times u ws = elim (mark-at d.ends ws d.balancers u found)
+    [ inl t ↦ absurd (let x = (o.ends u d.balancers t).0 in omega arith) | inr t ↦ t ] in
     let here : u < length d.ends = below_from-loose d.ends u (let x = h u in omega arith) in
     let l : HasLevel d n u = a u inside in
     let m : length us ≡ n = l us (old-path d ws o h u us here p.1) in
     rw m (omega arith)
 
-pub builds-grown : (d : Plan) (ws : List ℕ) → IsOrderly d → AllLoose d ws → Builds d (grown d ws) ws (next_wire d ∷ (next_wire d + 1) ∷ []) 1 1
+pub builds-grown : (d : Plan) (ws : List ℕ) → IsOrderly d → AllLoose d ws
+    → Builds d (grown d ws) ws (next_wire d ∷ (next_wire d + 1) ∷ []) 1 1
 builds-grown d ws o h = record {
   entries = refl;
   balancers = refl;
-  wires = omega (arith, length-append (mark d.ends ws d.balancers ++ None ∷ []) (None ∷ []), length-append (mark d.ends ws d.balancers) (None ∷ []), length-mark d.ends ws d.balancers);
+  wires = omega (
+    arith,
+    length-append (mark d.ends ws d.balancers ++ None ∷ []) (None ∷ []),
+    length-append (mark d.ends ws d.balancers) (None ∷ []),
+    length-mark d.ends ws d.balancers,
+  );
   loosed = loosed-grown d ws o h;
   flow = flow-grown d ws h;
   kept = kept-grown d ws o h;
@@ -130,14 +144,20 @@ sum-by-one : (ws : List ℕ) → sum_by (λ (_ : ℕ). 1) ws ≡ length ws
 sum-by-one [] = refl
 sum-by-one (w ∷ ws) = rw (sum_by-cons (λ (_ : ℕ). 1) w ws, sum-by-one ws) (omega arith)
 
-pub orderly-grown : (d : Plan) (ws : List ℕ) → IsOrderly d → AllLoose d ws → d.balancers < MOST_BALANCERS → (1 ≤ length ws) × (length ws ≤ 2) → IsOrderly (grown d ws)
+pub orderly-grown : (d : Plan) (ws : List ℕ) → IsOrderly d → AllLoose d ws → d.balancers < MOST_BALANCERS
+    → (1 ≤ length ws) × (length ws ≤ 2) → IsOrderly (grown d ws)
 unfolding AllLooseIn
 orderly-grown d ws o h k two = record {
   entries = o.entries;
   balancers = omega arith;
   wires =
       let wires = o.wires in
-      omega (arith, length-append (mark d.ends ws d.balancers ++ None ∷ []) (None ∷ []), length-append (mark d.ends ws d.balancers) (None ∷ []), length-mark d.ends ws d.balancers);
+      omega (
+        arith,
+        length-append (mark d.ends ws d.balancers ++ None ∷ []) (None ∷ []),
+        length-append (mark d.ends ws d.balancers) (None ∷ []),
+        length-mark d.ends ws d.balancers,
+      );
   ends = λ u b e.
       let found = end-grown d ws u b e in
       elim (cases_eq b d.balancers) [
@@ -145,7 +165,8 @@ orderly-grown d ws o h k two = record {
           omega arith,
           elim (mark-at d.ends ws d.balancers u (rw same at found)) [
             | inl t ↦ absurd (let x = (o.ends u d.balancers t).0 in omega arith)
-            | inr t ↦ let here : u < length d.ends = below_from-loose d.ends u (let x = h u in omega arith) in let wires = o.wires in omega arith
+            | inr t ↦ let here : u < length d.ends = below_from-loose d.ends u (let x = h u in omega arith) in let wires = o.wires in
+                omega arith
           ],
         )
         | inr other ↦ let was = o.ends u b (mark-other d.ends ws d.balancers u b other h found) in (omega arith, omega arith)

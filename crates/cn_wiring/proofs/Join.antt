@@ -11,8 +11,11 @@ pub two-stand : (d : Plan) (u v : ℕ) → AllLoose d (u ∷ v ∷ []) → (u < 
 unfolding AllLooseIn times
 two-stand d u v h =
     let first = head-loose d.ends u (v ∷ []) h in
-    let second = head-loose (set d.ends u (Some 0)) v [] (tail-loose d.ends u 0 (v ∷ []) h) in
-    (below_from-loose d.ends u first, let k = below_from-loose (set d.ends u (Some 0)) v second in omega (arith, length-set d.ends u (Some 0)))
+    let second = head-loose (set d.ends u (Some 0)) v [] (tail-loose d.ends u 0 (v ∷ []) h) in (
+      below_from-loose d.ends u first,
+      let k = below_from-loose (set d.ends u (Some 0)) v second in
+          omega (arith, length-set d.ends u (Some 0)),
+    )
 
 pub halves-joined : (d : Plan) (u v : ℕ) → IsOrderly d → AllLoose d (u ∷ v ∷ []) → (f : ℕ → ℕ) → IsFlow (grown d (u ∷ v ∷ [])) f
     → (f (next_wire d) ≡ half (f u + f v) 0) × (f (next_wire d + 1) ≡ half (f u + f v) 1)

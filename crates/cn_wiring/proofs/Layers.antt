@@ -30,7 +30,8 @@ unfolding with_layer
 rest-pair d x y xs ys = refl
 
 rest_more : (d : Plan) (xs ys : List ℕ) (i : ℕ) → i < length xs → i < length ys
-    → with_layer d (drop i xs) (drop i ys) ≡ with_layer (with_balancer d (get_or xs i 0 ∷ get_or ys i 0 ∷ [])) (drop (i + 1) xs) (drop (i + 1) ys)
+    → with_layer d (drop i xs) (drop i ys) ≡ with_layer (with_balancer d (get_or xs i 0 ∷ get_or ys i 0 ∷ [])) (drop (i + 1) xs)
+    (drop (i + 1) ys)
 rest_more d xs ys i h k = rw (drop_more xs i 0 h, drop_more ys i 0 k) (rest-pair d _ _ _ _)
 
 -- two numbers more
@@ -43,7 +44,8 @@ range-two_more a (suc n) b e =
 wires-more : (a i b : ℕ) → b ≡ a + 2 * i → range_with_len a (2 * (i + 1)) ≡ range_with_len a (2 * i) ++ b ∷ (b + 1) ∷ []
 wires-more a i b e = let s : 2 * (i + 1) ≡ 2 * i + 2 = omega arith in rw s (range-two_more a (2 * i) b e)
 
-times-take_more : (w : ℕ) (xs : List ℕ) (i : ℕ) → i < length xs → times w (take (i + 1) xs) ≡ times w (take i xs) + times w (get_or xs i 0 ∷ [])
+times-take_more : (w : ℕ) (xs : List ℕ) (i : ℕ) → i < length xs
+    → times w (take (i + 1) xs) ≡ times w (take i xs) + times w (get_or xs i 0 ∷ [])
 times-take_more w xs i h = rw (take_more xs i 0 h) (times-append w (take i xs) (get_or xs i 0 ∷ []))
 
 times-take : (w : ℕ) (xs : List ℕ) (i : ℕ) → times w (take i xs) ≤ times w xs
@@ -69,20 +71,31 @@ times-pairs w xs ys i h k =
       times-take_more w ys i k,
     )
 
-pairs-loose : (d : Plan) (xs ys : List ℕ) (i : ℕ) → i < length xs → i < length ys → AllLoose d (xs ++ ys) → AllLoose d ((take i xs ++ take i ys) ++ (get_or xs i 0 ∷ get_or ys i 0 ∷ []))
+pairs-loose : (d : Plan) (xs ys : List ℕ) (i : ℕ) → i < length xs → i < length ys → AllLoose d (xs ++ ys)
+    → AllLoose d ((take i xs ++ take i ys) ++ (get_or xs i 0 ∷ get_or ys i 0 ∷ []))
 pairs-loose d xs ys i h k there w =
     let t = there w in
-    omega (arith, times-pairs w xs ys i h k, times-append w (take (i + 1) xs) (take (i + 1) ys), times-append w xs ys, times-take w xs (i + 1), times-take w ys (i + 1))
+    omega (
+      arith,
+      times-pairs w xs ys i h k,
+      times-append w (take (i + 1) xs) (take (i + 1) ys),
+      times-append w xs ys,
+      times-take w xs (i + 1),
+      times-take w ys (i + 1),
+    )
 
 -- the next pair is loose
-pub layer-next : {old new : Plan} {xs ys outs : List ℕ} {i : ℕ} → i < length xs → i < length ys → AllLoose old (xs ++ ys) → Layer old new xs ys outs i → AllLoose new (get_or xs i 0 ∷ get_or ys i 0 ∷ [])
+pub layer-next : {old new : Plan} {xs ys outs : List ℕ} {i : ℕ} → i < length xs → i < length ys → AllLoose old (xs ++ ys)
+    → Layer old new xs ys outs i → AllLoose new (get_or xs i 0 ∷ get_or ys i 0 ∷ [])
 layer-next {old} {new} {xs} {ys} {outs} {i} h k there b = Builds-loose _ (pairs-loose old xs ys i h k there) b.built
 
-pub layer-more : {old mid new : Plan} {xs ys outs : List ℕ} {i r s : ℕ} → i < length xs → i < length ys → AllLoose old (xs ++ ys) → Layer old mid xs ys outs i
+pub layer-more : {old mid new : Plan} {xs ys outs : List ℕ} {i r s : ℕ} → i < length xs → i < length ys → AllLoose old (xs ++ ys)
+    → Layer old mid xs ys outs i
     → Builds mid new (get_or xs i 0 ∷ get_or ys i 0 ∷ []) (r ∷ s ∷ []) 1 1
     → (r ≡ next_wire mid) × (s ≡ r + 1)
     → new ≡ with_balancer mid (get_or xs i 0 ∷ get_or ys i 0 ∷ [])
-    → ((f : ℕ → ℕ) → IsFlow new f → (f r ≡ half (f (get_or xs i 0) + f (get_or ys i 0)) 0) × (f s ≡ half (f (get_or xs i 0) + f (get_or ys i 0)) 1))
+    → ((f : ℕ → ℕ) → IsFlow new f → (f r ≡ half (f (get_or xs i 0) + f (get_or ys i 0)) 0)
+    × (f s ≡ half (f (get_or xs i 0) + f (get_or ys i 0)) 1))
     → Layer old new xs ys (outs ++ r ∷ s ∷ []) (i + 1)
 layer-more {old} {mid} {new} {xs} {ys} {outs} {i} {r} {s} h k there l b at plan g = record {
   built = Builds-like _ (λ w. times-pairs w xs ys i h k) (Builds-beside (pairs-loose old xs ys i h k there) l.built b);
@@ -94,8 +107,17 @@ layer-more {old} {mid} {new} {xs} {ys} {outs} {i} {r} {s} h k there l b at plan 
   flow = λ f q.
       let here = g f q in
       let rest = l.flow f (b.flow f q) in
-      let lengths : length (map f (take i xs)) ≡ length (map f (take i ys)) = omega (arith, length-map (take i xs) f, length-map (take i ys) f, length-take-le i xs, length-take-le i ys) in
-      rw (map-append f outs (r ∷ s ∷ []), map_more f xs i 0 h, map_more f ys i 0 k, layer-push (map f (take i xs)) (map f (take i ys)) (f (get_or xs i 0)) (f (get_or ys i 0)) lengths, rest, here.0, here.1);
+      let lengths : length (map f (take i xs)) ≡ length (map f (take i ys)) =
+      omega (arith, length-map (take i xs) f, length-map (take i ys) f, length-take-le i xs, length-take-le i ys) in
+      rw (
+        map-append f outs (r ∷ s ∷ []),
+        map_more f xs i 0 h,
+        map_more f ys i 0 k,
+        layer-push (map f (take i xs)) (map f (take i ys)) (f (get_or xs i 0)) (f (get_or ys i 0)) lengths,
+        rest,
+        here.0,
+        here.1,
+      );
   rest = rw plan (sym (rest_more mid xs ys i h k)) ∙ l.rest;
 }
 

@@ -15,7 +15,8 @@ module _ (t : Table) (w : IsWellFormed t) where
   plan-end : (u b : ℕ) → u < length t.ends → end_of t u ≡ Balancer b → get_or (map balancer_of t.ends) u None ≡ Some b
   plan-end u b h e = get_or-map balancer_of t.ends u (Balancer 0) None h ∙ ap balancer_of e
 
-  feeds : (u b x : ℕ) → u < length t.ends → end_of t u ≡ Balancer b → (x ≡ t.entries + 2 * b) ⊎ (x ≡ t.entries + 2 * b + 1) → Feeds (plan_of_table t) u x
+  feeds : (u b x : ℕ) → u < length t.ends → end_of t u ≡ Balancer b → (x ≡ t.entries + 2 * b) ⊎ (x ≡ t.entries + 2 * b + 1)
+      → Feeds (plan_of_table t) u x
   feeds u b x h e (inl q) = (b, plan-end u b h e, inl (omega arith))
   feeds u b x h e (inr q) = (b, plan-end u b h e, inr (omega arith))
 
@@ -24,11 +25,14 @@ module _ (t : Table) (w : IsWellFormed t) where
 
   module _ (n : ℕ) (deep : HasDepth t n) where
     -- from each wire there is a way on to an exit, of one length for all paths that come there
-    onward : (fuel x : ℕ) → x < length t.ends → length t.ends ≤ x + fuel → (k : ℕ) × ((us : List ℕ) → IsPath (plan_of_table t) x us → length us + k ≡ n)
+    onward : (fuel x : ℕ) → x < length t.ends → length t.ends ≤ x + fuel
+        → (k : ℕ) × ((us : List ℕ) → IsPath (plan_of_table t) x us → length us + k ≡ n)
     onward zero x h f = absurd (omega arith)
     onward (suc fuel) x h f = by (end_of t x) refl (λ y l m. onward fuel y l m)
       where
-        by : (end : End) → end_of t x ≡ end → ((y : ℕ) → y < length t.ends → length t.ends ≤ y + fuel → (k : ℕ) × ((us : List ℕ) → IsPath (plan_of_table t) y us → length us + k ≡ n)) → (k : ℕ) × ((us : List ℕ) → IsPath (plan_of_table t) x us → length us + k ≡ n)
+        by : (end : End) → end_of t x ≡ end → ((y : ℕ) → y < length t.ends → length t.ends ≤ y + fuel
+            → (k : ℕ) × ((us : List ℕ) → IsPath (plan_of_table t) y us → length us + k ≡ n))
+            → (k : ℕ) × ((us : List ℕ) → IsPath (plan_of_table t) x us → length us + k ≡ n)
         by (Exit i) e rest = (0, λ us p. omega (arith, deep i x h e us p))
         by (Balancer b) e rest =
             let (before, there) = ahead t w x b h e in
@@ -42,7 +46,8 @@ module _ (t : Table) (w : IsWellFormed t) where
     level : ℕ → ℕ
     level x = level_by x (cases_lt x (length t.ends))
 
-    level_by-paths : (x : ℕ) (where_is : (x < length t.ends) ⊎ (length t.ends ≤ x)) → x < length t.ends → HasLevel (plan_of_table t) (level_by x where_is) x
+    level_by-paths : (x : ℕ) (where_is : (x < length t.ends) ⊎ (length t.ends ≤ x)) → x < length t.ends
+        → HasLevel (plan_of_table t) (level_by x where_is) x
     unfolding level_by
     level_by-paths x (inl k) h us p = omega (arith, (onward (length t.ends) x k (omega arith)).1 us p)
     level_by-paths x (inr k) h us p = absurd (omega arith)
@@ -62,7 +67,8 @@ module _ (t : Table) (w : IsWellFormed t) where
             let (us, path) = path-to u h in
             let in_range : t.entries + 2 * b + p < length t.ends = omega (arith, w.wires) in
             let here = level-paths u h us path in
-            let next = level-paths (t.entries + 2 * b + p) in_range (u ∷ us) (feeds u b (t.entries + 2 * b + p) h e (zero-or-one (t.entries + 2 * b) p few), path) in
+            let next = level-paths (t.entries + 2 * b + p) in_range (u ∷ us)
+            (feeds u b (t.entries + 2 * b + p) h e (zero-or-one (t.entries + 2 * b) p few), path) in
             omega arith;
         exit = λ u i h e. let (us, path) = path-to u h in sym (level-paths u h us path) ∙ deep i u h e us path;
       },

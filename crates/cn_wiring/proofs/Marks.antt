@@ -43,7 +43,8 @@ loose_in-set es u b w h =
     elim (cases_eq u w) [
       | inl e ↦
           rw (eq-eqb u w e, ← e, get_or-set_same es u (Some b) (Some 0) k)
-          (elim (is_none (get_or es u (Some 0))) as (λ t. 1 ≤ when t 1 → when false 1 + 1 ≡ when t 1) [ true ↦ λ _. refl | false ↦ λ i. absurd (omega arith) ] h)
+          (elim (is_none (get_or es u (Some 0))) as (λ t. 1 ≤ when t 1 → when false 1 + 1 ≡ when t 1)
+          [ true ↦ λ _. refl | false ↦ λ i. absurd (omega arith) ] h)
       | inr n ↦ rw (ne_eqb u w n, get_or-set_other es u w (Some b) (Some 0) (λ e. n (sym e))) (omega arith)
     ]
 
@@ -52,7 +53,8 @@ AllLooseIn es ws = (w : ℕ) → times w ws ≤ loose_in es w
 
 pub head-loose : (es : List (Option ℕ)) (u : ℕ) (ws : List ℕ) → AllLooseIn es (u ∷ ws) → 1 ≤ loose_in es u
 unfolding AllLooseIn times
-head-loose es u ws h = let k = h u in let e = eq-eqb u u refl in let m : when (eqb u u) 1 + times u ws ≤ loose_in es u = k in let n : 1 + times u ws ≤ loose_in es u = rw e at m in omega arith
+head-loose es u ws h = let k = h u in let e = eq-eqb u u refl in let m : when (eqb u u) 1 + times u ws ≤ loose_in es u = k in
+    let n : 1 + times u ws ≤ loose_in es u = rw e at m in omega arith
 
 pub tail-loose : (es : List (Option ℕ)) (u b : ℕ) (ws : List ℕ) → AllLooseIn es (u ∷ ws) → AllLooseIn (set es u (Some b)) ws
 unfolding AllLooseIn times
@@ -64,35 +66,41 @@ pub length-mark : (es : List (Option ℕ)) (ws : List ℕ) (b : ℕ) → length 
 length-mark es [] b = refl
 length-mark es (w ∷ ws) b = length-mark (set es w (Some b)) ws b ∙ length-set es w (Some b)
 
-pub loose_in-mark : (es : List (Option ℕ)) (ws : List ℕ) (b w : ℕ) → AllLooseIn es ws → loose_in (mark es ws b) w + times w ws ≡ loose_in es w
+pub loose_in-mark : (es : List (Option ℕ)) (ws : List ℕ) (b w : ℕ) → AllLooseIn es ws
+    → loose_in (mark es ws b) w + times w ws ≡ loose_in es w
 unfolding times
 loose_in-mark es [] b w h = omega arith
 loose_in-mark es (u ∷ ws) b w h =
     omega (arith, loose_in-mark (set es u (Some b)) ws b w (tail-loose es u b ws h), loose_in-set es u b w (head-loose es u ws h))
 
 ends_at-loose : (c : ℕ) (es : List (Option ℕ)) (u : ℕ) → 1 ≤ loose_in es u → get_or es u (Some 0) ≡ None
-ends_at-loose c es u h = elim (get_or es u (Some 0)) as (λ o. 1 ≤ when (is_none o) 1 → o ≡ None) [ None ↦ λ _. refl | Some x ↦ λ i. absurd (omega arith) ] h
+ends_at-loose c es u h = elim (get_or es u (Some 0)) as (λ o. 1 ≤ when (is_none o) 1 → o ≡ None)
+    [ None ↦ λ _. refl | Some x ↦ λ i. absurd (omega arith) ] h
 
 pub total-mark : (es : List (Option ℕ)) (ws : List ℕ) (b c : ℕ) (f : ℕ → ℕ) → AllLooseIn es ws
     → total_where (ends_at c) (mark es ws b) f ≡ total_where (ends_at c) es f + when (eqb b c) (sum_by f ws)
-total-mark es [] b c f h = elim (eqb b c) as (λ t. total_where (ends_at c) es f ≡ total_where (ends_at c) es f + when t 0) [ true ↦ omega arith | false ↦ omega arith ]
+total-mark es [] b c f h = elim (eqb b c) as (λ t. total_where (ends_at c) es f ≡ total_where (ends_at c) es f + when t 0)
+    [ true ↦ omega arith | false ↦ omega arith ]
 total-mark es (u ∷ ws) b c f h =
     let l = head-loose es u ws h in
     let step : total_where (ends_at c) (set es u (Some b)) f + 0 ≡ total_where (ends_at c) es f + when (eqb b c) (f u) =
     rw (ends_at-loose c es u l) at (total-where-set (ends_at c) es u (Some b) (Some 0) f (below_from-loose es u l)) in
     let rest = total-mark (set es u (Some b)) ws b c f (tail-loose es u b ws h) in
-    rw (rest, sum_by-cons f u ws) (elim (eqb b c) as (λ t. total_where (ends_at c) (set es u (Some b)) f + 0 ≡ total_where (ends_at c) es f + when t (f u)
+    rw (rest, sum_by-cons f u ws) (elim (eqb b c) as
+    (λ t. total_where (ends_at c) (set es u (Some b)) f + 0 ≡ total_where (ends_at c) es f + when t (f u)
     → total_where (ends_at c) (set es u (Some b)) f + when t (sum_by f ws) ≡ total_where (ends_at c) es f + when t (f u + sum_by f ws))
     [ true ↦ λ s. omega arith | false ↦ λ s. omega arith ] step)
 
 -- a wire that ends at another balancer than b did so before
-pub mark-other : (es : List (Option ℕ)) (ws : List ℕ) (b u c : ℕ) → c ≢ b → AllLooseIn es ws → get_or (mark es ws b) u None ≡ Some c → get_or es u None ≡ Some c
+pub mark-other : (es : List (Option ℕ)) (ws : List ℕ) (b u c : ℕ) → c ≢ b → AllLooseIn es ws → get_or (mark es ws b) u None ≡ Some c
+    → get_or es u None ≡ Some c
 mark-other es [] b u c n l h = h
 mark-other es (w ∷ ws) b u c n l h =
     let k = mark-other (set es w (Some b)) ws b u c n (tail-loose es w b ws l) h in
     elim (cases_eq u w) [
       | inl e ↦
-          let s : get_or (set es w (Some b)) w None ≡ Some b = get_or-set_same es w (Some b) None (below_from-loose es w (head-loose es w ws l)) in
+          let s : get_or (set es w (Some b)) w None ≡ Some b =
+          get_or-set_same es w (Some b) None (below_from-loose es w (head-loose es w ws l)) in
           let k' : get_or (set es w (Some b)) w None ≡ Some c = rw e at k in
           let same : Some b ≡ Some c = sym s ∙ k' in
           absurd (n (sym (some_same b c same)))
@@ -100,7 +108,8 @@ mark-other es (w ∷ ws) b u c n l h =
     ]
 
 -- a wire that ends at b did so before, or is one of ws
-pub mark-at : (es : List (Option ℕ)) (ws : List ℕ) (b u : ℕ) → get_or (mark es ws b) u None ≡ Some b → (get_or es u None ≡ Some b) ⊎ (1 ≤ times u ws)
+pub mark-at : (es : List (Option ℕ)) (ws : List ℕ) (b u : ℕ) → get_or (mark es ws b) u None ≡ Some b
+    → (get_or es u None ≡ Some b) ⊎ (1 ≤ times u ws)
 unfolding times
 mark-at es [] b u h = inl h
 mark-at es (w ∷ ws) b u h =
@@ -122,7 +131,8 @@ get-or-push-none es u b e =
     elim (cases_order (length es) u) [
       | inl k ↦ let n : None ≡ Some b = sym (get_or_push es None None u k) ∙ e in absurd (cc)
       | inr o ↦ elim o [
-        | inl k ↦ let n : None ≡ Some b = sym (get_or_past (es ++ None ∷ []) u None (omega (arith, length-append es (None ∷ [])))) ∙ e in absurd (cc)
+        | inl k ↦ let n : None ≡ Some b = sym (get_or_past (es ++ None ∷ []) u None (omega (arith, length-append es (None ∷ [])))) ∙ e in
+            absurd (cc)
         | inr k ↦ sym (get_or_append_left es (None ∷ []) None u k) ∙ e
       ]
     ]

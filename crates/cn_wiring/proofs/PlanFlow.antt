@@ -27,7 +27,8 @@ agree-more n f g h p q u k =
       | inr l ↦ elim (cases_eq u n) [ inl e ↦ rw e p | inr d ↦ let e : u ≡ n + 1 = omega arith in rw e q ]
     ]
 
-agree-upto : (d : Plan) → IsOrderly d → (f g : ℕ → ℕ) → IsFlow d f → IsFlow d g → Agree d.entries f g → (b : ℕ) → b ≤ d.balancers → Agree (d.entries + 2 * b) f g
+agree-upto : (d : Plan) → IsOrderly d → (f g : ℕ → ℕ) → IsFlow d f → IsFlow d g → Agree d.entries f g → (b : ℕ) → b ≤ d.balancers
+    → Agree (d.entries + 2 * b) f g
 agree-upto d w f g p q h zero k = rw add-zero h
 agree-upto d w f g p q h (suc b) k =
     let before = agree-upto d w f g p q h b (omega arith) in
@@ -35,9 +36,11 @@ agree-upto d w f g p q h (suc b) k =
     let pb = p b (omega arith) in
     let qb = q b (omega arith) in
     let m : d.entries + 2 * suc b ≡ (d.entries + 2 * b) + 2 = omega arith in
-    rw m (agree-more (d.entries + 2 * b) f g before ((rw add-zero at pb.0) ∙ ap (λ n. half n 0) same ∙ sym (rw add-zero at qb.0)) (pb.1 ∙ ap (λ n. half n 1) same ∙ sym qb.1))
+    rw m (agree-more (d.entries + 2 * b) f g before ((rw add-zero at pb.0) ∙ ap (λ n. half n 0) same ∙ sym (rw add-zero at qb.0))
+    (pb.1 ∙ ap (λ n. half n 1) same ∙ sym qb.1))
 
-pub flow-unique : (d : Plan) → IsOrderly d → (f g : ℕ → ℕ) → IsFlow d f → IsFlow d g → Agree d.entries f g → Agree (d.entries + 2 * d.balancers) f g
+pub flow-unique : (d : Plan) → IsOrderly d → (f g : ℕ → ℕ) → IsFlow d f → IsFlow d g → Agree d.entries f g
+    → Agree (d.entries + 2 * d.balancers) f g
 flow-unique d w f g p q h = agree-upto d w f g p q h d.balancers (omega arith)
 
 -- the flow of inputs x, made balancer by balancer
@@ -90,7 +93,8 @@ unfolding total_where
 some_place p [] d f h = absurd (omega arith)
 some_place p (x ∷ xs) d f h = by (p x) refl h (some_place p xs d (λ u. f (suc u)))
   where
-    by : (b : Bool) → p x ≡ b → 1 ≤ when b (f 0) + total_where p xs (λ u. f (suc u)) → (1 ≤ total_where p xs (λ u. f (suc u)) → (u : ℕ) × (p (get_or xs u d) ≡ true)) → (u : ℕ) × (p (get_or (x ∷ xs) u d) ≡ true)
+    by : (b : Bool) → p x ≡ b → 1 ≤ when b (f 0) + total_where p xs (λ u. f (suc u))
+        → (1 ≤ total_where p xs (λ u. f (suc u)) → (u : ℕ) × (p (get_or xs u d) ≡ true)) → (u : ℕ) × (p (get_or (x ∷ xs) u d) ≡ true)
     by true is k rest = (0, is)
     by false is k rest = let (u, e) = rest (omega arith) in (suc u, e)
 

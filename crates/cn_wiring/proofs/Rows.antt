@@ -22,6 +22,7 @@ pub outputs-count : (level : ℕ) (y : List ℕ) → level ≤ MOST_LEVEL → Is
 outputs-count level y small row = (omega (arith, row, pow_pos level), omega (arith, row, width-few level small))
 
 -- what holds of a result by three of its clauses
-pub all_ok : {T E : Type 0} (r : Result T E) (P Q R S : T → Type 0) → ((x : T) → P x → Q x → R x → S x) → IfOk r P → IfOk r Q → IfOk r R → IfOk r S
+pub all_ok : {T E : Type 0} (r : Result T E) (P Q R S : T → Type 0) → ((x : T) → P x → Q x → R x → S x) → IfOk r P → IfOk r Q → IfOk r R
+    → IfOk r S
 all_ok (Ok x) P Q R S f p q s = f x p q s
 all_ok (Err e) P Q R S f p q s = tt

@@ -26,7 +26,8 @@ module _ (t : Table) (w : IsWellFormed t) where
       elim (cases_lt u (length t.ends)) [
         | inl h ↦ (h, from-balancer (end_of t u) b (sym (get_or-map balancer_of t.ends u (Balancer 0) None h) ∙ e))
         | inr g ↦
-            let past : get_or (map balancer_of t.ends) u None ≡ None = get_or_past (map balancer_of t.ends) u None (omega (arith, length-map t.ends balancer_of)) in
+            let past : get_or (map balancer_of t.ends) u None ≡ None =
+            get_or_past (map balancer_of t.ends) u None (omega (arith, length-map t.ends balancer_of)) in
             let no : None ≡ Some b = sym past ∙ e in absurd (cc)
       ]
 

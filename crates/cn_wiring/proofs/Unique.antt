@@ -18,7 +18,8 @@ ends-there t u i e = elim (cases_lt u (length t.ends)) [
 ]
 
 -- two wires of a table that end at one exit are one wire
-one-wire : (t : Table) → IsWellFormed t → (i u v : ℕ) → i < t.width → u < length t.ends → v < length t.ends → end_of t u ≡ Exit i → end_of t v ≡ Exit i → u ≡ v
+one-wire : (t : Table) → IsWellFormed t → (i u v : ℕ) → i < t.width → u < length t.ends → v < length t.ends → end_of t u ≡ Exit i
+    → end_of t v ≡ Exit i → u ≡ v
 one-wire t w i u v h k l a b = elim (cases_eq u v) [
   | inl e ↦ e
   | inr d ↦

@@ -51,7 +51,8 @@ but-one records lines records' lines' order t is h kept l =
       linked = l;
       off = λ u k. let m = times-but t t (order u) in grind (arith, nat_tests);
       within = λ n k o. rw (kept.wire n, kept.as_many) (is.within n (rw kept.len at k));
-      there = λ n k o. rw (kept.wire n) (let m = times-but n t (order (wire_of records n)) in let one = is.there n (rw kept.len at k) in grind (arith, nat_tests));
+      there = λ n k o. rw (kept.wire n) (let m = times-but n t (order (wire_of records n)) in let one = is.there n (rw kept.len at k) in
+          grind (arith, nat_tests));
       all =
           let more = sum-more (length lines) w (λ u. length (but t (order u))) (λ u. length (order u))
           (λ u k. let c = length-but t (order u) in let one = is.linked.once t u k in let here = is.there t h in elim (cases_eq u w) [
@@ -70,19 +71,28 @@ new-one records lines order x is =
     let l = is.linked in
     record {
       linked = record {
-        chain = λ u h. chain-same (next_of records) (prev_of records) (next_of (records ++ x ∷ [])) (prev_of (records ++ x ∷ [])) (order u) (l.chain u h)
+        chain = λ u h. chain-same (next_of records) (prev_of records) (next_of (records ++ x ∷ [])) (prev_of (records ++ x ∷ [])) (order u)
+            (l.chain u h)
             (λ z i. ap (λ (r : Record). r.next) (same z (l.below z u h i)))
             (λ z i. ap (λ (r : Record). r.prev) (same z (l.below z u h (in-tail z (order u) i))));
         ends = l.ends;
         once = λ n u h. elim (cases_lt n (length records)) [
-          | inl k ↦ let w : wire_of (records ++ x ∷ []) n ≡ wire_of records n = ap (λ (r : Record). r.wire) (same n k) in rw w (l.once n u h)
-          | inr k ↦ let none : times n (order u) ≡ 0 = elim (cases_lt 0 (times n (order u))) [ inl s ↦ absurd (let b = l.below n u h (omega arith) in omega arith) | inr s ↦ omega arith ] in omega (arith, none)
+          | inl k ↦ let w : wire_of (records ++ x ∷ []) n ≡ wire_of records n = ap (λ (r : Record). r.wire) (same n k) in
+              rw w (l.once n u h)
+          | inr k ↦ let none : times n (order u) ≡ 0 =
+              elim (cases_lt 0 (times n (order u))) [
+                | inl s ↦ absurd (let b = l.below n u h (omega arith) in omega arith)
+                | inr s ↦ omega arith
+              ] in omega (arith, none)
         ];
         below = λ n u h i. let b = l.below n u h i in omega arith;
       };
-      off = λ u h. elim (cases_lt 0 (times (length records) (order u))) [ inl s ↦ absurd (let b = l.below (length records) u h (omega arith) in omega arith) | inr s ↦ omega arith ];
-      within = λ n k o. let i : n < length records = omega arith in let w : wire_of (records ++ x ∷ []) n ≡ wire_of records n = ap (λ (r : Record). r.wire) (same n i) in rw w (is.within n i);
-      there = λ n k o. let i : n < length records = omega arith in let w : wire_of (records ++ x ∷ []) n ≡ wire_of records n = ap (λ (r : Record). r.wire) (same n i) in rw w (is.there n i);
+      off = λ u h. elim (cases_lt 0 (times (length records) (order u)))
+          [ inl s ↦ absurd (let b = l.below (length records) u h (omega arith) in omega arith) | inr s ↦ omega arith ];
+      within = λ n k o. let i : n < length records = omega arith in
+          let w : wire_of (records ++ x ∷ []) n ≡ wire_of records n = ap (λ (r : Record). r.wire) (same n i) in rw w (is.within n i);
+      there = λ n k o. let i : n < length records = omega arith in
+          let w : wire_of (records ++ x ∷ []) n ≡ wire_of records n = ap (λ (r : Record). r.wire) (same n i) in rw w (is.there n i);
       all = let a = is.all in omega arith;
     }
   where
@@ -103,9 +113,12 @@ but-none records lines records' lines' order t to is h kept l =
       ]);
       there = λ n k. rw (kept.wire n) (elim (cases_eq n t) [
         | inl e ↦ let f : eqb n t ≡ true = grind (arith, nat_tests) in rw f
-            (let a = times-append n (order to) (last_of t to to) in let b = times-last n t to to in let z : times n (order to) ≡ 0 = rw e (is.off to h) in let s : eqb to to ≡ true = grind (arith, nat_tests) in grind (arith, nat_tests))
+            (let a = times-append n (order to) (last_of t to to) in let b = times-last n t to to in
+            let z : times n (order to) ≡ 0 = rw e (is.off to h) in let s : eqb to to ≡ true = grind (arith, nat_tests) in
+            grind (arith, nat_tests))
         | inr o ↦ let f : eqb n t ≡ false = grind (arith, nat_tests) in let w = wire_of records n in rw f
-            (let a = times-append n (order w) (last_of t to w) in let b = times-last n t to w in let one = is.there n (rw kept.len at k) o in grind (arith, nat_tests))
+            (let a = times-append n (order w) (last_of t to w) in let b = times-last n t to w in
+            let one = is.there n (rw kept.len at k) o in grind (arith, nat_tests))
       ]);
       all =
           let more = sum-more (length lines) to (λ u. length (order u)) (λ u. length (put_last order t to u))
@@ -137,7 +150,8 @@ marks-one lines lines' words words' t b has each as_many same e u h =
 -- ---- a record is added, and put last on a line
 
 -- what is needed of the code: one record more, and then that it is put last
-pub added : (records : List Record) (lines : List Line) (mid records' : List Record) (lines' : List Line) (order : ℕ → List ℕ) (x : Record) (t to : ℕ)
+pub added : (records : List Record) (lines : List Line) (mid records' : List Record) (lines' : List Line) (order : ℕ → List ℕ) (x : Record)
+    (t to : ℕ)
     → IsLinks records lines order → mid ≡ records ++ x ∷ [] → t ≡ length records → to < length lines
     → IsOn mid lines records' lines' t to
     → (Linked mid lines order → OffLine lines order t → Linked records' lines' (put_last order t to))

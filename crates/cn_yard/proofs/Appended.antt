@@ -12,7 +12,8 @@ use Rattle.cn_yard.proofs.Unlinked.{in-tail, once-at, one-line}
 -- the ends of a line that has one more
 pub ends-push : (line : Line) (t : ℕ) (xs : List ℕ) → Ends line xs → Ends (line_with line t) (xs ++ t ∷ [])
 unfolding last_or
-ends-push line t [] e = let c = e.count in let f : eqb line.count 0 ≡ true = grind (arith, nat_tests) in record { count = omega arith; first = rw f refl; last = refl }
+ends-push line t [] e = let c = e.count in let f : eqb line.count 0 ≡ true = grind (arith, nat_tests) in
+    record { count = omega arith; first = rw f refl; last = refl }
 ends-push line t (x ∷ xs) e =
     let c = e.count in
     let f : eqb line.count 0 ≡ false = grind (arith, nat_tests) in
@@ -49,7 +50,8 @@ times-last z t to u = by (eqb to u)
     by false = times-nil z
 
 -- what is needed of the code
-pub record Appends (records : List Record) (lines : List Line) (mid : List Record) (records' : List Record) (lines' : List Line) (t to : ℕ) : Type 0 where
+pub record Appends (records : List Record) (lines : List Line) (mid : List Record) (records' : List Record) (lines' : List Line) (t to : ℕ)
+    : Type 0 where
   pub first : count_of lines to ≡ 0 → mid ≡ records
   pub later : 1 ≤ count_of lines to → IsLink records mid (line_of lines to).last t
   pub records_are : IsPut mid records' t to
@@ -69,20 +71,24 @@ on-kept records lines mid records' lines' t to h ap' =
     record {
       len = put.len ∙ elim which [ inl e ↦ ap length (ap'.first e) | inr e ↦ (ap'.later e).len ];
       as_many = rw ap'.lines_are (length-set lines to new);
-      wire = λ z. put.wire z ∙ ap (λ (w : ℕ). cond (eqb z t) to w) (elim which [ inl e ↦ ap (λ r. wire_of r z) (ap'.first e) | inr e ↦ (ap'.later e).wire z ]);
+      wire = λ z. put.wire z ∙ ap (λ (w : ℕ). cond (eqb z t) to w)
+          (elim which [ inl e ↦ ap (λ r. wire_of r z) (ap'.first e) | inr e ↦ (ap'.later e).wire z ]);
       client = λ z. put.client z ∙ elim which [ inl e ↦ rw (ap'.first e) refl | inr e ↦ (ap'.later e).client z ];
       count = λ u. elim (cases_eq to u) [
         | inl e ↦ let f : eqb to u ≡ true = grind (arith, nat_tests) in
-            let c : count_of (set lines to new) to ≡ count_of lines to + 1 = ap (λ (x : Line). x.count) (get_or-set_same lines to new no_line h) in
+            let c : count_of (set lines to new) to ≡ count_of lines to + 1 =
+            ap (λ (x : Line). x.count) (get_or-set_same lines to new no_line h) in
             rw (f, ap'.lines_are) (subst (λ (v : ℕ). count_of (set lines to new) v ≡ count_of lines v + 1) e (omega (arith, c)))
         | inr o ↦ let f : eqb to u ≡ false = grind (arith, nat_tests) in
-            let c : count_of (set lines to new) u ≡ count_of lines u = ap (λ (x : Line). x.count) (get_or-set_other lines to u new no_line (λ k. o (sym k))) in
+            let c : count_of (set lines to new) u ≡ count_of lines u =
+            ap (λ (x : Line). x.count) (get_or-set_other lines to u new no_line (λ k. o (sym k))) in
             rw (f, ap'.lines_are) (omega (arith, c))
       ];
     }
 
 -- and the lines run through the lists with the number at the end of one
-pub on-linked : (records : List Record) (lines : List Line) (mid records' : List Record) (lines' : List Line) (order : ℕ → List ℕ) (t to : ℕ)
+pub on-linked : (records : List Record) (lines : List Line) (mid records' : List Record) (lines' : List Line) (order : ℕ → List ℕ)
+    (t to : ℕ)
     → Linked records lines order → OffLine lines order t → t < length records → to < length lines
     → Appends records lines mid records' lines' t to → IsOn records lines records' lines' t to
     → Linked records' lines' (put_last order t to)
@@ -95,28 +101,35 @@ on-linked records lines mid records' lines' order t to l off ht h ap' kept =
           let hu : u < length lines = rw kept.as_many at within in
           elim (cases_eq to u) [
             | inl e ↦ let f : eqb to u ≡ true = grind (arith, nat_tests) in
-                rw f (chain-on (next_of records) (prev_of records) (next_of records') (prev_of records') (line_of lines u) t (order u) (l.ends u hu) (l.chain u hu) (off u hu) (one-line records lines order l u hu)
-                (subst (λ (v : ℕ). 1 ≤ count_of lines v → ((z : ℕ) → next_of records' z ≡ cond (eqb z (line_of lines v).last) t (next_of records z)) × ((z : ℕ) → prev_of records' z ≡ cond (eqb z t) (line_of lines v).last (prev_of records z))) e
+                rw f (chain-on (next_of records) (prev_of records) (next_of records') (prev_of records') (line_of lines u) t (order u)
+                (l.ends u hu) (l.chain u hu) (off u hu) (one-line records lines order l u hu)
+                (subst (λ (v : ℕ). 1 ≤ count_of lines v →
+                ((z : ℕ) → next_of records' z ≡ cond (eqb z (line_of lines v).last) t (next_of records z))
+                × ((z : ℕ) → prev_of records' z ≡ cond (eqb z t) (line_of lines v).last (prev_of records z))) e
                 (λ some. (λ z. put.next z ∙ (ap'.later some).next z, λ z. put.prev z ∙ (ap'.later some).prev z))))
             | inr o ↦ let f : eqb to u ≡ false = grind (arith, nat_tests) in
-                rw (f, append-nil (order u)) (chain-same (next_of records) (prev_of records) (next_of records') (prev_of records') (order u) (l.chain u hu)
+                rw (f, append-nil (order u)) (chain-same (next_of records) (prev_of records) (next_of records') (prev_of records') (order u)
+                (l.chain u hu)
                 (λ z in'. put.next z ∙ elim which [
                   | inl e ↦ rw (ap'.first e) refl
                   | inr some ↦ let a = (ap'.later some).next z in
                       let last = last-there (line_of lines to) (order to) (l.ends to h) some in
-                      let q : z ≢ (line_of lines to).last = λ e. absurd (o (once-at records lines order l z to u h hu (rw e last) in')) in grind (arith, nat_tests)
+                      let q : z ≢ (line_of lines to).last = λ e. absurd (o (once-at records lines order l z to u h hu (rw e last) in')) in
+                      grind (arith, nat_tests)
                 ])
                 (λ z in'. put.prev z ∙ elim which [
                   | inl e ↦ rw (ap'.first e) refl
                   | inr some ↦ let a = (ap'.later some).prev z in let none = off u hu in
-                      let q : z ≢ t = λ e. absurd (let i = in-tail z (order u) in' in let j : 1 ≤ times t (order u) = rw e at i in omega arith) in grind (arith, nat_tests)
+                      let q : z ≢ t = λ e. absurd (let i = in-tail z (order u) in' in let j : 1 ≤ times t (order u) = rw e at i in
+                      omega arith) in grind (arith, nat_tests)
                 ]))
           ];
       ends = λ u within.
           let hu : u < length lines = rw kept.as_many at within in
           rw ap'.lines_are (elim (cases_eq to u) [
             | inl e ↦ let f : eqb to u ≡ true = grind (arith, nat_tests) in
-                rw f (subst (λ (v : ℕ). Ends (line_of (set lines to new) v) (order v ++ t ∷ [])) e (rw (get_or-set_same lines to new no_line h) (ends-push (line_of lines to) t (order to) (l.ends to h))))
+                rw f (subst (λ (v : ℕ). Ends (line_of (set lines to new) v) (order v ++ t ∷ [])) e
+                (rw (get_or-set_same lines to new no_line h) (ends-push (line_of lines to) t (order to) (l.ends to h))))
             | inr o ↦ let f : eqb to u ≡ false = grind (arith, nat_tests) in
                 rw (f, get_or-set_other lines to u new no_line (λ k. o (sym k)), append-nil (order u)) (l.ends u hu)
           ]);

@@ -26,7 +26,8 @@ closed-bare y b = inl b
 
 -- there are as many lists as wires, and nobody stands beyond
 pub wires-are : (y : Inside) → length (lists_of y) ≡ y.wires
-wires-are y = length-map (range_with_len 0 y.wires) (λ u. with_clients (client_of y.records.items) (walked y.records.items y.lines.items u)) ∙ length-range_with_len 0 y.wires
+wires-are y = length-map (range_with_len 0 y.wires) (λ u. with_clients (client_of y.records.items) (walked y.records.items y.lines.items u))
+    ∙ length-range_with_len 0 y.wires
 
 pub on-beyond : (y : Inside) (u : ℕ) → y.wires ≤ u → on (lists_of y) u ≡ []
 on-beyond y u h = get_or_past (lists_of y) u [] (omega (arith, wires-are y))
@@ -39,7 +40,8 @@ pub both : {a b : Lists} {m n : ℕ} → a ≡ b → m ≡ n → yard-with a m �
 both e f = rw (e, f) refl
 
 -- no list has a token, and none is free: an empty yard
-pub empty-of : (y : Inside) → ((u : ℕ) → u < y.wires → on (lists_of y) u ≡ []) → count_of y.lines.items y.wires ≡ 0 → yard_of y ≡ empty y.wires
+pub empty-of : (y : Inside) → ((u : ℕ) → u < y.wires → on (lists_of y) u ≡ []) → count_of y.lines.items y.wires ≡ 0
+    → yard_of y ≡ empty y.wires
 empty-of y none free =
     both (ext_get_or [] (lists_of y) (replicate y.wires []) (wires-are y ∙ sym (length-replicate y.wires []))
     (λ u h. let w = wires-are y in none u (omega arith) ∙ sym (get_or-replicate y.wires u [] [] (omega arith)))) free
@@ -52,7 +54,8 @@ module _ (y : Inside) (b : IsBare y) where
   unfolding walk
   bare-on u = elim (cases_lt u y.wires) [
     | inr l ↦ on-beyond y u l
-    | inl l ↦ get_or-map-range_with_len (λ w. with_clients (client_of y.records.items) (walked y.records.items y.lines.items w)) 0 y.wires u u [] l (omega arith) ∙ nobody u
+    | inl l ↦ get_or-map-range_with_len (λ w. with_clients (client_of y.records.items) (walked y.records.items y.lines.items w)) 0 y.wires u
+        u [] l (omega arith) ∙ nobody u
   ]
     where
       nobody : (u : ℕ) → with_clients (client_of y.records.items) (walked y.records.items y.lines.items u) ≡ []
@@ -68,7 +71,8 @@ module _ (y : Inside) (b : IsBare y) where
   bare-tokens = sum-below-zero (length (lists_of y)) (λ u. length (on (lists_of y) u)) (λ u. ap length (bare-on u))
 
   pub bare-times : (t : ℕ) → times_in (lists_of y) t ≡ 0
-  bare-times t = sum-below-zero (length (lists_of y)) (λ u. count_by (λ e. nat_eq t e.0) (on (lists_of y) u)) (λ u. ap (λ es. count_by (λ e. nat_eq t e.0) es) (bare-on u))
+  bare-times t = sum-below-zero (length (lists_of y)) (λ u. count_by (λ e. nat_eq t e.0) (on (lists_of y) u))
+      (λ u. ap (λ es. count_by (λ e. nat_eq t e.0) es) (bare-on u))
 
   pub bare-records : length y.records.items ≡ 0
   bare-records = ap length b.records

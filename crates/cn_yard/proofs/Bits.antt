@@ -23,7 +23,8 @@ none-marked words none n = no-word words n (zeros words none (n / 64))
 
 -- the lowest bit of the first word with a bit
 pub least-marked : (words : List ℕ) (at : ℕ) → position (λ w. not (nat_eq w 0)) words ≡ Some at → get_or words at 0 < 2 ^ 64
-    → (marked words (at * 64 + trailing_zeros w64 (get_or words at 0)) ≡ 1) × ((n : ℕ) → n < at * 64 + trailing_zeros w64 (get_or words at 0) → marked words n ≡ 0)
+    → (marked words (at * 64 + trailing_zeros w64 (get_or words at 0)) ≡ 1)
+    × ((n : ℕ) → n < at * 64 + trailing_zeros w64 (get_or words at 0) → marked words n ≡ 0)
 least-marked words at found fits =
     let (within, here, before) = position-Some (λ w. not (nat_eq w 0)) words at 0 found in
     let w = get_or words at 0 in
@@ -56,7 +57,8 @@ none-from words at none n from =
 
 -- the least of them
 pub least-from : (words : List ℕ) (at least : ℕ) → marked (drop at words) least ≡ 1 → ((n : ℕ) → n < least → marked (drop at words) n ≡ 0)
-    → (64 * at ≤ at * 64 + least) × (marked words (at * 64 + least) ≡ 1) × ((n : ℕ) → 64 * at ≤ n → n < at * 64 + least → marked words n ≡ 0)
+    → (64 * at ≤ at * 64 + least) × (marked words (at * 64 + least) ≡ 1)
+    × ((n : ℕ) → 64 * at ≤ n → n < at * 64 + least → marked words n ≡ 0)
 least-from words at least one lower = (
   omega arith,
   sym (marked-drop words at least) ∙ one,

@@ -45,7 +45,8 @@ releases-relinked y z order t k re stands =
     let (within, on_wire) = live y order k t stands in
     let count = re.move.count y.wires in
     let wire = re.move.wire t in
-    releases-of y z order t k (keeps-relinked y z order t y.wires k re) re.wires re.move.client (grind (arith, nat_tests)) re.move.len (grind (arith, nat_tests))
+    releases-of y z order t k (keeps-relinked y z order t y.wires k re) re.wires re.move.client (grind (arith, nat_tests)) re.move.len
+    (grind (arith, nat_tests))
 
 -- ---- free records are added
 
@@ -99,7 +100,8 @@ keeps-renamed y z order t client k re =
 
 -- the last of the free records
 pub last-free : (y : Inside) (order : ℕ → List ℕ) → Keeps y order → 1 ≤ count_of y.lines.items y.wires
-    → ((line_of y.lines.items y.wires).last < length y.records.items) × (wire_of y.records.items (line_of y.lines.items y.wires).last ≡ y.wires)
+    → ((line_of y.lines.items y.wires).last < length y.records.items)
+    × (wire_of y.records.items (line_of y.lines.items y.wires).last ≡ y.wires)
 last-free y order k some =
     let as_many = k.wires in
     let within : y.wires < length y.lines.items = omega arith in
@@ -112,7 +114,8 @@ pub free-read : (y : Inside) (order : ℕ → List ℕ) (line : Line) → Keeps 
     → line ≡ get_or y.lines.items y.wires line → (line.last < length y.records.items) × (wire_of y.records.items line.last ≡ y.wires)
 free-read y order line k some at =
     let as_many = k.wires in
-    let e : line.last ≡ (line_of y.lines.items y.wires).last = ap (λ (l : Line). l.last) (get_or_read y.lines.items y.wires line (omega arith) at no_line) in
+    let e : line.last ≡ (line_of y.lines.items y.wires).last =
+    ap (λ (l : Line). l.last) (get_or_read y.lines.items y.wires line (omega arith) at no_line) in
     rw e (last-free y order k some)
 
 -- a free record that was moved to a wire, and then got a client, is a token that came in
@@ -128,7 +131,8 @@ admits-renamed old y m z order t to client k same spare re na free h =
     let fewer : count_of m.lines.items y.wires + 1 ≡ count_of y.lines.items y.wires = grind (arith, nat_tests) in
     rw (← this)
     (admits-of old y z order t to k k' (na.wires ∙ re.wires) same spare
-    (λ n o. let c = na.new.client n in let d = re.move.client n in grind (arith, nat_tests)) h free (na.new.len ∙ re.move.len) (omega arith))
+    (λ n o. let c = na.new.client n in let d = re.move.client n in grind (arith, nat_tests)) h free (na.new.len ∙ re.move.len)
+    (omega arith))
 
 -- ---- what the bodies leave in the fields
 
@@ -141,7 +145,8 @@ after y records lines marks = record {
   marks = with_items y.marks marks;
 }
 
-pub relinked-by : (y : Inside) (records : List Record) (lines : List Line) (marks : List ℕ) (records' : List Record) (lines' : List Line) (marks' : List ℕ) (n t to : ℕ)
+pub relinked-by : (y : Inside) (records : List Record) (lines : List Line) (marks : List ℕ) (records' : List Record) (lines' : List Line)
+    (marks' : List ℕ) (n t to : ℕ)
     → n ≡ t
     → records ≡ y.records.items → lines ≡ y.lines.items → marks ≡ y.marks.items → length records ≡ vec_len y.records
     → length lines ≡ vec_len y.lines → length marks ≡ vec_len y.marks
@@ -156,7 +161,8 @@ relinked-by y records lines marks records' lines' marks' n t to e r l m rl ll ml
     let move' : IsMove y.records.items y.lines.items records' lines' t to = rw (← r, ← l, ← e) move in
     record {
       wires = refl;
-      lined = λ order is. rw (a, b, d) (subst (λ (k : ℕ). IsLined records' lines' marks' (moved order k to)) e (lined order (rw (r, l, m) is)));
+      lined = λ order is. rw (a, b, d) (subst (λ (k : ℕ). IsLined records' lines' marks' (moved order k to)) e
+          (lined order (rw (r, l, m) is)));
       move = rw (a, b) move';
     }
 

@@ -84,7 +84,8 @@ module _ (n p : ℕ → ℕ) where
   prev-in t y [] c h = absurd (omega (arith, times-nil t))
   prev-in t y (z ∷ zs) c h =
       elim (cases_eq z t) [
-        | inl e ↦ let tied = (chain-tied y z zs c).1 in let before : p t ≡ y = ap p (sym e) ∙ tied in rw before (grind (arith, nat_tests, times-cons y y (z ∷ zs)))
+        | inl e ↦ let tied = (chain-tied y z zs c).1 in let before : p t ≡ y = ap p (sym e) ∙ tied in
+            rw before (grind (arith, nat_tests, times-cons y y (z ∷ zs)))
         | inr o ↦ let more = times-cons t z zs in
             let rest = prev-in t z zs (chain-rest y (z ∷ zs) c) (grind (arith, nat_tests)) in
             omega (arith, rest, times-cons (p t) y (z ∷ zs))
@@ -136,7 +137,8 @@ module _ (n p : ℕ → ℕ) where
       let o' : y ≢ t = λ h. absurd (grind (arith, nat_tests)) in
       let rest = chain-but-last t x (y ∷ z ∷ zs) (chain-rest x (y ∷ z ∷ zs) c) e (omega arith) in
       let tied = chain-tied x y (z ∷ zs) c in
-      rw (but-cons t x (y ∷ z ∷ zs) o, but-cons t y (z ∷ zs) o') (chain-cons x y (but t (z ∷ zs)) tied.0 tied.1 (rw (but-cons t y (z ∷ zs) o') at rest))
+      rw (but-cons t x (y ∷ z ∷ zs) o, but-cons t y (z ∷ zs) o')
+      (chain-cons x y (but t (z ∷ zs)) tied.0 tied.1 (rw (but-cons t y (z ∷ zs) o') at rest))
 
   -- the last that is left
   pub last-left : (t y : ℕ) (ys : List ℕ) → Chain n p (y ∷ ys) → 1 ≤ length ys → last_or y ys ≡ t → times t ys ≤ 1
@@ -163,7 +165,8 @@ chain-same n p n' p' (x ∷ y ∷ ys) c a b =
     chain-cons n' p' x y ys
     (a x (grind (arith, nat_tests, times-cons x x (y ∷ ys))) ∙ tied.0)
     (b y (grind (arith, nat_tests, times-cons y y ys)) ∙ tied.1)
-    (chain-same n p n' p' (y ∷ ys) (chain-rest n p x (y ∷ ys) c) (λ z h. a z (omega (arith, times-cons z x (y ∷ ys)))) (λ z h. b z (omega (arith, times-cons z y ys))))
+    (chain-same n p n' p' (y ∷ ys) (chain-rest n p x (y ∷ ys) c) (λ z h. a z (omega (arith, times-cons z x (y ∷ ys))))
+    (λ z h. b z (omega (arith, times-cons z y ys))))
 
 -- one between its neighbours is taken out
 pub chain-but : (n p n' p' : ℕ → ℕ) (t x : ℕ) (xs : List ℕ) → Chain n p (x ∷ xs) → 1 ≤ times t xs → last_or x xs ≢ t
@@ -180,8 +183,10 @@ chain-but n p n' p' t x (y ∷ w ∷ ws) c h o one a b =
           let forth : n t ≡ w = ap n (sym e) ∙ (chain-tied n p y w ws (chain-rest n p x (y ∷ w ∷ ws) c)).0 in
           rw (gone e (one t)) (chain-cons n' p' x w ws (let k = a x in grind (arith, nat_tests)) (let k = b w in grind (arith, nat_tests))
           (chain-same n p n' p' (w ∷ ws) (chain-rest n p y (w ∷ ws) (chain-rest n p x (y ∷ w ∷ ws) c))
-          (λ z l. let k = a z in let m = one z in let s = times-cons z x (y ∷ w ∷ ws) in let r = times-cons z y (w ∷ ws) in grind (arith, nat_tests))
-          (λ z l. let k = b z in let m = one z in let s = times-cons z x (y ∷ w ∷ ws) in let r = times-cons z y (w ∷ ws) in let q = times-cons z w ws in grind (arith, nat_tests))))
+          (λ z l. let k = a z in let m = one z in let s = times-cons z x (y ∷ w ∷ ws) in let r = times-cons z y (w ∷ ws) in
+          grind (arith, nat_tests))
+          (λ z l. let k = b z in let m = one z in let s = times-cons z x (y ∷ w ∷ ws) in let r = times-cons z y (w ∷ ws) in
+          let q = times-cons z w ws in grind (arith, nat_tests))))
       | inr d ↦
           let more = times-cons t y (w ∷ ws) in
           let tied = chain-tied n p x y (w ∷ ws) c in
@@ -191,12 +196,14 @@ chain-but n p n' p' t x (y ∷ w ∷ ws) c h o one a b =
           let forth = next-in n p t y (w ∷ ws) (chain-rest n p y (w ∷ ws) c') there o in
           rw (but-cons t y (w ∷ ws) d) (chain-cons n' p' x y (but t (w ∷ ws))
           (let k = a x in let m = one x in let s = times-cons x x (y ∷ w ∷ ws) in grind (arith, nat_tests))
-          (let k = b y in let m = one y in let s = times-cons y x (y ∷ w ∷ ws) in let r = times-cons y y (w ∷ ws) in grind (arith, nat_tests))
+          (let k = b y in let m = one y in let s = times-cons y x (y ∷ w ∷ ws) in let r = times-cons y y (w ∷ ws) in
+          grind (arith, nat_tests))
           (chain-but n p n' p' t y (w ∷ ws) c' there o (λ z. let m = one z in omega (arith, times-cons z x (y ∷ w ∷ ws))) a b))
     ]
   where
     gone : y ≡ t → times t (x ∷ y ∷ w ∷ ws) ≤ 1 → but t (y ∷ w ∷ ws) ≡ w ∷ ws
-    gone e m = let s = times-cons t x (y ∷ w ∷ ws) in rw e (but-head t (w ∷ ws) (rw e at (let k : times t (y ∷ w ∷ ws) ≤ 1 = omega arith in k)))
+    gone e m = let s = times-cons t x (y ∷ w ∷ ws) in
+        rw e (but-head t (w ∷ ws) (rw e at (let k : times t (y ∷ w ∷ ws) ≤ 1 = omega arith in k)))
 
 -- one more comes last
 pub chain-push : (n p n' p' : ℕ → ℕ) (t x : ℕ) (xs : List ℕ) → Chain n p (x ∷ xs) → times t (x ∷ xs) ≡ 0
@@ -204,7 +211,8 @@ pub chain-push : (n p n' p' : ℕ → ℕ) (t x : ℕ) (xs : List ℕ) → Chain
     → ((z : ℕ) → n' z ≡ cond (eqb z (last_or x xs)) t (n z)) → ((z : ℕ) → p' z ≡ cond (eqb z t) (last_or x xs) (p z))
     → Chain n' p' (x ∷ xs ++ t ∷ [])
 unfolding last_or
-chain-push n p n' p' t x [] c h one a b = chain-cons n' p' x t [] (let k = a x in grind (arith, nat_tests)) (let k = b t in grind (arith, nat_tests)) (chain-one n' p' t)
+chain-push n p n' p' t x [] c h one a b =
+    chain-cons n' p' x t [] (let k = a x in grind (arith, nat_tests)) (let k = b t in grind (arith, nat_tests)) (chain-one n' p' t)
 chain-push n p n' p' t x (y ∷ ys) c h one a b =
     let tied = chain-tied n p x y ys c in
     let last = last-in y ys in
@@ -213,7 +221,8 @@ chain-push n p n' p' t x (y ∷ ys) c h one a b =
     chain-cons n' p' x y (ys ++ t ∷ [])
     (let k = a x in let m = one x in let q = times-cons x x (y ∷ ys) in grind (arith, nat_tests))
     (let k = b y in grind (arith, nat_tests))
-    (chain-push n p n' p' t y ys (chain-rest n p x (y ∷ ys) c) (omega arith) (λ z. let m = one z in omega (arith, times-cons z x (y ∷ ys))) a b)
+    (chain-push n p n' p' t y ys (chain-rest n p x (y ∷ ys) c) (omega arith) (λ z. let m = one z in omega (arith, times-cons z x (y ∷ ys)))
+    a b)
 
 -- and it is the last then
 pub last-push : (t d : ℕ) (xs : List ℕ) → last_or d (xs ++ t ∷ []) ≡ t

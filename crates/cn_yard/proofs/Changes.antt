@@ -21,7 +21,8 @@ links-client records lines records' order t client is new =
     let l = is.linked in
     record {
       linked = record {
-        chain = λ u h. chain-same (next_of records) (prev_of records) (next_of records') (prev_of records') (order u) (l.chain u h) (λ z i. new.next z) (λ z i. new.prev z);
+        chain = λ u h. chain-same (next_of records) (prev_of records) (next_of records') (prev_of records') (order u) (l.chain u h)
+            (λ z i. new.next z) (λ z i. new.prev z);
         ends = l.ends;
         once = λ n u h. rw (new.wire n) (l.once n u h);
         below = λ n u h i. rw new.len (l.below n u h i);
@@ -34,7 +35,8 @@ links-client records lines records' order t client is new =
 -- all records are tokens or free
 tokens-at : (y : Inside) (order : ℕ → List ℕ) → Keeps y order → (w : ℕ) → y.wires ≡ w
     → tokens_in (lists_of y) + count_of y.lines.items w ≡ length y.records.items
-tokens-at y order k w e = subst (λ (v : ℕ). tokens_in (lists_of y) + count_of y.lines.items v ≡ length y.records.items) e (tokens-are y order k)
+tokens-at y order k w e = subst (λ (v : ℕ). tokens_in (lists_of y) + count_of y.lines.items v ≡ length y.records.items) e
+    (tokens-are y order k)
 
 -- ---- a move between wires
 
@@ -55,13 +57,15 @@ moves-of y z order t to k k' wires same h len count =
       spare = rw wires count;
       standing_now = standing-added old new t (client_of y.records.items t) to there (omega (arith, as_many))
           (λ u l. rw (lists u) (lookup-added t (client_of y.records.items t) to u (without t (on old u)) (lookup-gone t (on old u))))
-          (λ other u n. rw (lists u) (lookup-last other t (client_of y.records.items t) to u (without t (on old u)) n ∙ lookup-without other t (on old u) n));
+          (λ other u n. rw (lists u) (lookup-last other t (client_of y.records.items t) to u (without t (on old u)) n
+          ∙ lookup-without other t (on old u) n));
       tokens = let a = tokens-are y order k in let b = tokens-at z (moved order t to) k' y.wires wires in omega arith;
     }
   where
     lists : (u : ℕ) → on (lists_of z) u ≡ without t (on (lists_of y) u) ++ last_on t (client_of y.records.items t) to u
     lists u = elim (cases_lt u y.wires) [
-      | inl l ↦ on-moved y z order t to k k' wires (λ n i o. same n) u l ∙ ap (λ (c : ℕ). without t (on (lists_of y) u) ++ last_on t c to u) (same t)
+      | inl l ↦ on-moved y z order t to k k' wires (λ n i o. same n) u l
+          ∙ ap (λ (c : ℕ). without t (on (lists_of y) u) ++ last_on t c to u) (same t)
       | inr l ↦ let f : eqb to u ≡ false = grind (arith, nat_tests) in rw (on-beyond z u (omega (arith, wires)), on-beyond y u l, f) refl
     ]
 
@@ -82,8 +86,10 @@ releases-of y z order t k k' wires same free len count =
       lists = lists;
       spare = rw wires count;
       standing_now = λ other. elim (cases_eq other t) [
-        | inl e ↦ let f : eqb other t ≡ true = grind (arith, nat_tests) in rw (f, e) (standing-free z (moved order t y.wires) k' t (rw (free, wires) (omega arith)))
-        | inr o ↦ let f : eqb other t ≡ false = grind (arith, nat_tests) in rw (f, there) (standing-same (length old) old new other (λ u. rw (lists u) (lookup-without other t (on old u) o)))
+        | inl e ↦ let f : eqb other t ≡ true = grind (arith, nat_tests) in
+            rw (f, e) (standing-free z (moved order t y.wires) k' t (rw (free, wires) (omega arith)))
+        | inr o ↦ let f : eqb other t ≡ false = grind (arith, nat_tests) in
+            rw (f, there) (standing-same (length old) old new other (λ u. rw (lists u) (lookup-without other t (on old u) o)))
       ];
       tokens = let a = tokens-are y order k in let b = tokens-at z (moved order t y.wires) k' y.wires wires in omega arith;
     }
@@ -109,7 +115,8 @@ lists-same y z order order' k k' wires same clients =
     (λ u h. let l : u < y.wires = omega (arith, as_many', wires) in
     on-wire z order' k' u (omega (arith, wires))
     ∙ ap (λ xs. with_clients (client_of z.records.items) xs) (same u (λ e. absurd (omega arith)))
-    ∙ clients-same (client_of y.records.items) (client_of z.records.items) (order u) (λ n i. clients n (k.lined.links.linked.below n u (omega arith) i))
+    ∙ clients-same (client_of y.records.items) (client_of z.records.items) (order u)
+    (λ n i. clients n (k.lined.links.linked.below n u (omega arith) i))
     ∙ sym (on-wire y order k u l))
 
 -- the same lists have as many tokens
@@ -137,7 +144,8 @@ admits-of old y z order t to k k' wires same spare clients h free len count =
       lists = lists;
       spare = left;
       standing_now = standing-added (lists_of y) (lists_of z) t client to there (omega (arith, as_many))
-          (λ u l. rw (lists u) (lookup-added t client to u (on (lists_of y) u) (lookup-absent (length (lists_of y)) (lists_of y) t fresh u l)))
+          (λ u l. rw (lists u) (lookup-added t client to u (on (lists_of y) u)
+          (lookup-absent (length (lists_of y)) (lists_of y) t fresh u l)))
           (λ other u n. rw (lists u) (lookup-last other t client to u (on (lists_of y) u) n));
       tokens = let a = tokens-are y order k in let b = tokens-at z (moved order t to) k' y.wires wires in omega arith;
     })
@@ -149,7 +157,9 @@ admits-of old y z order t to k k' wires same spare clients h free len count =
           let once = k.lined.links.linked.once t u (omega arith) in
           let none : times t (order u) ≡ 0 = grind (arith, nat_tests) in
           let at = on-wire y order k u l in
-          let out : without t (on (lists_of y) u) ≡ on (lists_of y) u = ap (λ es. without t es) at ∙ without-clients (client_of y.records.items) t (order u) ∙ ap (λ xs. with_clients (client_of y.records.items) xs) (but-out t (order u) none) ∙ sym at in
+          let out : without t (on (lists_of y) u) ≡ on (lists_of y) u =
+          ap (λ es. without t es) at ∙ without-clients (client_of y.records.items) t (order u)
+          ∙ ap (λ xs. with_clients (client_of y.records.items) xs) (but-out t (order u) none) ∙ sym at in
           on-moved y z order t to k k' wires (λ n i o. clients n o) u l ∙ ap (λ es. es ++ last_on t (client_of z.records.items t) to u) out
       | inr l ↦ let f : eqb to u ≡ false = grind (arith, nat_tests) in rw (on-beyond z u (omega (arith, wires)), on-beyond y u l, f) refl
     ]

@@ -25,7 +25,12 @@ lookup-set (e ∷ es) k x y q here = grind (arith, nat_tests, lookup-set es k x 
 pub times-push : {X : Type 0} (es : List (ℕ × X)) (k : ℕ) (x : X) (q : ℕ)
     → count_by (λ e. nat_eq q e.0) (es ++ (k, x) ∷ []) ≡ count_by (λ e. nat_eq q e.0) es + cond (nat_eq q k) 1 0
 times-push [] k x q = grind arith
-times-push (e ∷ es) k x q = omega (arith, times-push es k x q, sum_by-cons (λ y. cond (nat_eq q y.0) 1 0) e (es ++ (k, x) ∷ []), sum_by-cons (λ y. cond (nat_eq q y.0) 1 0) e es)
+times-push (e ∷ es) k x q = omega (
+  arith,
+  times-push es k x q,
+  sum_by-cons (λ y. cond (nat_eq q y.0) 1 0) e (es ++ (k, x) ∷ []),
+  sum_by-cons (λ y. cond (nat_eq q y.0) 1 0) e es,
+)
 
 -- a key that is not found is not there
 pub times-absent : {X : Type 0} (es : List (ℕ × X)) (k : ℕ) → lookup (nat_eq k) es ≡ None → count_by (λ e. nat_eq k e.0) es ≡ 0
@@ -41,13 +46,23 @@ times-set (e ∷ es) k x q = by (nat_eq k e.0) (times-set es k x q)
     by : (b : Bool) → count_by (λ e. nat_eq q e.0) (set_value (nat_eq k) es x) ≡ count_by (λ e. nat_eq q e.0) es
         → count_by (λ e. nat_eq q e.0) (cond b ((e.0, x) ∷ es) (e ∷ set_value (nat_eq k) es x)) ≡ count_by (λ e. nat_eq q e.0) (e ∷ es)
     by true rest = refl
-    by false rest = omega (arith, rest, sum_by-cons (λ y. cond (nat_eq q y.0) 1 0) e (set_value (nat_eq k) es x), sum_by-cons (λ y. cond (nat_eq q y.0) 1 0) e es)
+    by false rest = omega (
+      arith,
+      rest,
+      sum_by-cons (λ y. cond (nat_eq q y.0) 1 0) e (set_value (nat_eq k) es x),
+      sum_by-cons (λ y. cond (nat_eq q y.0) 1 0) e es,
+    )
 
 -- how many values pass after a new key
 pub count-push : {X : Type 0} (p : X → Bool) (es : List (ℕ × X)) (k : ℕ) (x : X)
     → count_by p (values_of (es ++ (k, x) ∷ [])) ≡ count_by p (values_of es) + cond (p x) 1 0
 count-push p [] k x = grind arith
-count-push p (e ∷ es) k x = omega (arith, count-push p es k x, sum_by-cons (λ y. cond (p y) 1 0) e.1 (values_of (es ++ (k, x) ∷ [])), sum_by-cons (λ y. cond (p y) 1 0) e.1 (values_of es))
+count-push p (e ∷ es) k x = omega (
+  arith,
+  count-push p es k x,
+  sum_by-cons (λ y. cond (p y) 1 0) e.1 (values_of (es ++ (k, x) ∷ [])),
+  sum_by-cons (λ y. cond (p y) 1 0) e.1 (values_of es),
+)
 
 -- how many values pass after a change of one key's value
 pub count-set : {X : Type 0} (p : X → Bool) (es : List (ℕ × X)) (k : ℕ) (x y : X)
@@ -90,11 +105,17 @@ pub count-pair-set : {X : Type 0} (p : X → Bool) (q : ℕ) (es : List (ℕ × 
 count-pair-set p q es k x y here = sum_by-set (λ e. cond (nat_eq q e.0 && p e.1) 1 0) es k x y here
 
 -- no more entries have a key and a value that passes than have the key
-pub count-pair-le-times : {X : Type 0} (p : X → Bool) (q : ℕ) (es : List (ℕ × X)) → count_by (λ e. nat_eq q e.0 && p e.1) es ≤ count_by (λ e. nat_eq q e.0) es
+pub count-pair-le-times : {X : Type 0} (p : X → Bool) (q : ℕ) (es : List (ℕ × X))
+    → count_by (λ e. nat_eq q e.0 && p e.1) es ≤ count_by (λ e. nat_eq q e.0) es
 count-pair-le-times p q [] = omega arith
 count-pair-le-times p q (e ∷ es) =
     let first = less (nat_eq q e.0) (p e.1) in
-    omega (arith, count-pair-le-times p q es, sum_by-cons (λ y. cond (nat_eq q y.0 && p y.1) 1 0) e es, sum_by-cons (λ y. cond (nat_eq q y.0) 1 0) e es)
+    omega (
+      arith,
+      count-pair-le-times p q es,
+      sum_by-cons (λ y. cond (nat_eq q y.0 && p y.1) 1 0) e es,
+      sum_by-cons (λ y. cond (nat_eq q y.0) 1 0) e es,
+    )
   where
     less : (a b : Bool) → cond (a && b) 1 0 ≤ cond a 1 0
     less true true = omega arith
@@ -114,7 +135,13 @@ count-pair-found p q ((k, y) ∷ es) x found few = by (nat_eq q k) refl found (�
         let value : y ≡ x = cc in
         let one : ◌≡◌ {A = ℕ} (cond (nat_eq q k) 1 0) 1 = rw is refl in
         let here : ◌≡◌ {A = ℕ} (cond (nat_eq q k && p y) 1 0) (cond (p x) 1 0) = rw (is, value) refl in
-        omega (arith, few, count-pair-le-times p q es, sum_by-cons (λ e. cond (nat_eq q e.0 && p e.1) 1 0) (k, y) es, sum_by-cons (λ e. cond (nat_eq q e.0) 1 0) (k, y) es)
+        omega (
+          arith,
+          few,
+          count-pair-le-times p q es,
+          sum_by-cons (λ e. cond (nat_eq q e.0 && p e.1) 1 0) (k, y) es,
+          sum_by-cons (λ e. cond (nat_eq q e.0) 1 0) (k, y) es,
+        )
     by false is h rest =
         let none : ◌≡◌ {A = ℕ} (cond (nat_eq q k) 1 0) 0 = rw is refl in
         let no : ◌≡◌ {A = ℕ} (cond (nat_eq q k && p y) 1 0) 0 = rw is refl in
@@ -123,15 +150,18 @@ count-pair-found p q ((k, y) ∷ es) x found few = by (nat_eq q k) refl found (�
 
 -- ---- tokens with their clients, where one comes last on a wire, and where one is taken out
 
-pub lookup-last : (other token client wire u : ℕ) (es : List (ℕ × ℕ)) → other ≢ token → lookup (nat_eq other) (es ++ last_on token client wire u) ≡ lookup (nat_eq other) es
+pub lookup-last : (other token client wire u : ℕ) (es : List (ℕ × ℕ)) → other ≢ token
+    → lookup (nat_eq other) (es ++ last_on token client wire u) ≡ lookup (nat_eq other) es
 lookup-last other token client wire u [] n = grind (arith, nat_tests)
 lookup-last other token client wire u (e ∷ es) n = grind (arith, nat_tests, lookup-last other token client wire u es n)
 
-pub lookup-added : (token client wire u : ℕ) (es : List (ℕ × ℕ)) → lookup (nat_eq token) es ≡ None → lookup (nat_eq token) (es ++ last_on token client wire u) ≡ (cond (eqb wire u) (Some client) None)
+pub lookup-added : (token client wire u : ℕ) (es : List (ℕ × ℕ)) → lookup (nat_eq token) es ≡ None
+    → lookup (nat_eq token) (es ++ last_on token client wire u) ≡ (cond (eqb wire u) (Some client) None)
 lookup-added token client wire u [] none = grind (arith, nat_tests)
 lookup-added token client wire u (e ∷ es) none = grind (arith, nat_tests, lookup-added token client wire u es)
 
-pub lookup-without : (other token : ℕ) (es : List (ℕ × ℕ)) → other ≢ token → lookup (nat_eq other) (without token es) ≡ lookup (nat_eq other) es
+pub lookup-without : (other token : ℕ) (es : List (ℕ × ℕ)) → other ≢ token
+    → lookup (nat_eq other) (without token es) ≡ lookup (nat_eq other) es
 lookup-without other token [] n = refl
 lookup-without other token (e ∷ es) n = grind (arith, nat_tests, lookup-without other token es n)
 
@@ -140,24 +170,28 @@ lookup-gone token [] = refl
 lookup-gone token (e ∷ es) = grind (arith, nat_tests, lookup-gone token es)
 
 -- a token that is not in the list is not taken out of it
-pub without-none : (token : ℕ) (es : List (ℕ × ℕ)) (f : ℕ × ℕ → ℕ) → count_by (λ e. eqb token e.0) es ≡ 0 → sum_by f (without token es) ≡ sum_by f es
+pub without-none : (token : ℕ) (es : List (ℕ × ℕ)) (f : ℕ × ℕ → ℕ) → count_by (λ e. eqb token e.0) es ≡ 0
+    → sum_by f (without token es) ≡ sum_by f es
 without-none token [] f none = refl
 without-none token (e ∷ es) f none =
     let head : ◌≡◌ {A = ℕ} (cond (eqb token e.0) 1 0) 0 = omega (arith, sum_by-cons (λ (x : ℕ × ℕ). cond (eqb token x.0) 1 0) e es) in
     by (eqb token e.0) refl head (without-none token es f (omega (arith, sum_by-cons (λ (x : ℕ × ℕ). cond (eqb token x.0) 1 0) e es)))
   where
-    by : (b : Bool) → eqb token e.0 ≡ b → ◌≡◌ {A = ℕ} (cond b 1 0) 0 → sum_by f (without token es) ≡ sum_by f es → sum_by f (without token (e ∷ es)) ≡ sum_by f (e ∷ es)
+    by : (b : Bool) → eqb token e.0 ≡ b → ◌≡◌ {A = ℕ} (cond b 1 0) 0 → sum_by f (without token es) ≡ sum_by f es
+        → sum_by f (without token (e ∷ es)) ≡ sum_by f (e ∷ es)
     by true is head rest = absurd (omega arith)
     by false is head rest = rw is (omega (arith, sum_by-cons f e (without token es), sum_by-cons f e es, rest))
 
 -- a token that is there once is taken out
-pub without-one : (token client : ℕ) (es : List (ℕ × ℕ)) (f : ℕ × ℕ → ℕ) → count_by (λ e. eqb token e.0) es ≤ 1 → lookup (eqb token) es ≡ Some client
+pub without-one : (token client : ℕ) (es : List (ℕ × ℕ)) (f : ℕ × ℕ → ℕ) → count_by (λ e. eqb token e.0) es ≤ 1
+    → lookup (eqb token) es ≡ Some client
     → sum_by f (without token es) + f (token, client) ≡ sum_by f es
 without-one token client [] f one found = cc
 without-one token client (e ∷ es) f one found = by (eqb token e.0) refl found (λ c l. without-one token client es f c l)
   where
     by : (b : Bool) → eqb token e.0 ≡ b → cond b (Some e.1) (lookup (eqb token) es) ≡ Some client
-        → (count_by (λ x. eqb token x.0) es ≤ 1 → lookup (eqb token) es ≡ Some client → sum_by f (without token es) + f (token, client) ≡ sum_by f es)
+        → (count_by (λ x. eqb token x.0) es ≤ 1 → lookup (eqb token) es ≡ Some client
+        → sum_by f (without token es) + f (token, client) ≡ sum_by f es)
         → sum_by f (without token (e ∷ es)) + f (token, client) ≡ sum_by f (e ∷ es)
     by true is found rest =
         let same : token ≡ e.0 = eqb-true token e.0 is in
@@ -175,7 +209,8 @@ pub found-once : (token client : ℕ) (es : List (ℕ × ℕ)) → lookup (eqb t
 found-once token client [] found = cc
 found-once token client (e ∷ es) found = by (eqb token e.0) refl found (λ l. found-once token client es l)
   where
-    by : (b : Bool) → eqb token e.0 ≡ b → cond b (Some e.1) (lookup (eqb token) es) ≡ Some client → (lookup (eqb token) es ≡ Some client → 1 ≤ count_by (λ x. eqb token x.0) es)
+    by : (b : Bool) → eqb token e.0 ≡ b → cond b (Some e.1) (lookup (eqb token) es) ≡ Some client
+        → (lookup (eqb token) es ≡ Some client → 1 ≤ count_by (λ x. eqb token x.0) es)
         → 1 ≤ count_by (λ x. eqb token x.0) (e ∷ es)
     by true is found rest =
         let one_here : ◌≡◌ {A = ℕ} (cond (eqb token e.0) 1 0) 1 = ap {B = ℕ} (λ b. cond b 1 0) is in

@@ -27,7 +27,8 @@ new-keeps y r l m fits =
     let as_many : length y.lines.items ≡ y.wires + 1 = ap length l ∙ length-replicate (y.wires + 1) no_line in
     let words : length y.marks.items ≡ y.wires / 64 + 1 = ap length m ∙ length-replicate (y.wires / 64 + 1) 0 in
     let none : length y.records.items ≡ 0 = ap length r in
-    let line : (u : ℕ) → u < length y.lines.items → line_of y.lines.items u ≡ no_line = λ u h. ap (λ ls. line_of ls u) l ∙ get_or-replicate (y.wires + 1) u no_line no_line (omega arith) in
+    let line : (u : ℕ) → u < length y.lines.items → line_of y.lines.items u ≡ no_line =
+    λ u h. ap (λ ls. line_of ls u) l ∙ get_or-replicate (y.wires + 1) u no_line no_line (omega arith) in
     record {
       lined = record {
         links = record {
@@ -45,7 +46,9 @@ new-keeps y r l m fits =
         room = omega arith;
         short = omega arith;
         marks = λ u h.
-            let a : marked y.marks.items u ≡ 0 = ap (λ (ws : List ℕ). marked ws u) m ∙ ap (λ (w : ℕ). bit_at w (u % 64)) (get_or-replicate (y.wires / 64 + 1) (u / 64) 0 0 (omega arith)) ∙ bit_at-zero (u % 64) in
+            let a : marked y.marks.items u ≡ 0 = ap (λ (ws : List ℕ). marked ws u) m
+            ∙ ap (λ (w : ℕ). bit_at w (u % 64)) (get_or-replicate (y.wires / 64 + 1) (u / 64) 0 0 (omega arith))
+            ∙ bit_at-zero (u % 64) in
             let b : count_of y.lines.items u ≡ 0 = ap (λ (x : Line). x.count) (line u h) in
             a ∙ rw b refl;
       };
@@ -74,7 +77,8 @@ pub keeps-same : (y z : Inside) (order : ℕ → List ℕ) → z.wires ≡ y.wir
     → z.marks.items ≡ y.marks.items → Keeps y order → Keeps z order
 keeps-same y z order w r l m k = record { lined = rw (r, l, m) k.lined; wires = rw (l, w) k.wires }
 
-pub view-same : (y z : Inside) → z.wires ≡ y.wires → z.records.items ≡ y.records.items → z.lines.items ≡ y.lines.items → yard_of z ≡ yard_of y
+pub view-same : (y z : Inside) → z.wires ≡ y.wires → z.records.items ≡ y.records.items → z.lines.items ≡ y.lines.items
+    → yard_of z ≡ yard_of y
 view-same y z w r l = rw (w, r, l) refl
 
 pub is-same : (y z : Inside) → z.wires ≡ y.wires → z.records.items ≡ y.records.items → z.lines.items ≡ y.lines.items

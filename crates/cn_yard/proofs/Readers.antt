@@ -27,12 +27,14 @@ module _ (y : Inside) (order : ℕ → List ℕ) (k : Keeps y order) where
   first-read u line h at =
       let w = k.wires in
       let e = line-read u line (omega arith) at in
-      rw (on-wire y order k u h) (by line (order u) (subst (λ (l : Line). Ends l (order u)) (sym e) (k.lined.links.linked.ends u (omega arith))))
+      rw (on-wire y order k u h) (by line (order u)
+      (subst (λ (l : Line). Ends l (order u)) (sym e) (k.lined.links.linked.ends u (omega arith))))
     where
       by : (line : Line) (xs : List ℕ) → Ends line xs
           → first_of (with_clients (client_of y.records.items) xs) ≡ cond (eqb line.count 0) None (Some line.first)
       by line [] e = let c = e.count in let f : eqb line.count 0 ≡ true = grind (arith, nat_tests) in rw f refl
-      by line (x ∷ xs) e = let c = e.count in let f : eqb line.count 0 ≡ false = grind (arith, nat_tests) in rw f (ap (λ (n : ℕ). Some n) e.first)
+      by line (x ∷ xs) e = let c = e.count in let f : eqb line.count 0 ≡ false = grind (arith, nat_tests) in
+          rw f (ap (λ (n : ℕ). Some n) e.first)
 
   -- a record as the code reads it
   pub record-read : (t : ℕ) (r : Record) → t < length y.records.items → r ≡ get_or y.records.items t r
@@ -64,7 +66,8 @@ module _ (y : Inside) (order : ℕ → List ℕ) (k : Keeps y order) where
       → IsTrue (ltb r.wire y.wires) ↔ IsSome (standing (lists_of y) t)
   live-read t r h at =
       let e : r.wire ≡ wire_of y.records.items t = ap (λ (s : Record). s.wire) (record-read t r h at) in (
-        λ test. let on' : wire_of y.records.items t < y.wires = rw e at (let l : r.wire < y.wires = grind (arith, nat_tests) in l) in some (standing-live y order k t h on'),
+        λ test. let on' : wire_of y.records.items t < y.wires = rw e at (let l : r.wire < y.wires = grind (arith, nat_tests) in l) in
+            some (standing-live y order k t h on'),
         λ stands. let on' = wire-read t r stands at in grind (arith, nat_tests),
       )
     where
@@ -85,9 +88,11 @@ module _ (y : Inside) (order : ℕ → List ℕ) (k : Keeps y order) where
       let same' : r.wire ≡ w = ap (λ (s : Record). s.wire) e in
       let l = line-read r.wire line (omega arith) line_at in
       let ends = k.lined.links.linked.ends r.wire (omega arith) in
-      let last : last_or line.last (order r.wire) ≡ line.last = subst (λ (l : Line). last_or l.last (order r.wire) ≡ l.last) (sym l) ends.last in
+      let last : last_or line.last (order r.wire) ≡ line.last =
+      subst (λ (l : Line). last_or l.last (order r.wire) ≡ l.last) (sym l) ends.last in
       let one : times t (order r.wire) ≡ 1 = rw same' (k.lined.links.there t h) in
-      let all = after-clients (next_of y.records.items) (prev_of y.records.items) (client_of y.records.items) t line.last (order r.wire) (k.lined.links.linked.chain r.wire (omega arith)) one in
+      let all = after-clients (next_of y.records.items) (prev_of y.records.items) (client_of y.records.items) t line.last (order r.wire)
+      (k.lined.links.linked.chain r.wire (omega arith)) one in
       let next : next_of y.records.items t ≡ r.next = ap (λ (s : Record). s.next) (sym e) in
       rw (same, on-wire y order k r.wire within) (all ∙ rw (last, next) refl)
     where
@@ -116,7 +121,8 @@ module _ (y : Inside) (order : ℕ → List ℕ) (k : Keeps y order) where
     pub lowest-read : (wire : ℕ) → wire < y.wires → (marked y.marks.items wire ≡ 1)
         → ((n : ℕ) → 64 * word ≤ n → n < wire → marked y.marks.items n ≡ 0) → IsLowest (lists_of y) wire
     lowest-read wire h one lower = record {
-      some = let as_many = k.wires in let m = k.lined.marks wire (omega arith) in rw (length-on y order k wire h) (grind (arith, nat_tests));
+      some = let as_many = k.wires in let m = k.lined.marks wire (omega arith) in
+          rw (length-on y order k wire h) (grind (arith, nat_tests));
       below = λ u l. nobody-at u (λ _ w. lower u w l);
     }
 

@@ -52,7 +52,8 @@ unfolding standing_below
 standing-added old new token client wire wires within own others other =
     rw wires (elim (cases_eq other token) [
       | inl e ↦ rw (e) (let same : eqb token token ≡ true = grind (arith, nat_tests) in rw same (by (length old) within own))
-      | inr n ↦ let differ : eqb other token ≡ false = grind (arith, nat_tests) in rw differ (standing-same (length old) old new other (λ u. others other u n))
+      | inr n ↦ let differ : eqb other token ≡ false = grind (arith, nat_tests) in
+          rw differ (standing-same (length old) old new other (λ u. others other u n))
     ])
   where
     by : (n : ℕ) → wire < n → ((u : ℕ) → u < n → lookup (nat_eq token) (on new u) ≡ cond (eqb wire u) (Some client) None)
@@ -61,5 +62,6 @@ standing-added old new token client wire wires within own others other =
     by (suc n) h own =
         elim (cases_eq n wire) [
           | inl e ↦ let here : eqb wire n ≡ true = grind (arith, nat_tests) in rw (own n (omega arith), here, e) refl
-          | inr d ↦ let away : eqb wire n ≡ false = grind (arith, nat_tests) in rw (own n (omega arith), away) (by n (omega arith) (λ u l. own u (omega arith)))
+          | inr d ↦ let away : eqb wire n ≡ false = grind (arith, nat_tests) in
+              rw (own n (omega arith), away) (by n (omega arith) (λ u l. own u (omega arith)))
         ]

@@ -39,14 +39,16 @@ nowhere token es none = by (lookup (nat_eq token) es) refl
     by None is = is
     by (Some c) is = absurd (omega (arith, none, found-once token c es is))
 
-module _ (y : Lists) (token client wire : ℕ) (rest : List (ℕ × ℕ)) (once : (k : ℕ) → times_in y k ≤ 1) (inside : wire < length y) (begins : on y wire ≡ (token, client) ∷ rest) where
+module _ (y : Lists) (token client wire : ℕ) (rest : List (ℕ × ℕ)) (once : (k : ℕ) → times_in y k ≤ 1) (inside : wire < length y)
+    (begins : on y wire ≡ (token, client) ∷ rest) where
   abbrev times : ℕ → ℕ
   times u = times_on token (on y u)
 
   here : times wire ≡ 1 + times_on token rest
   here =
       let one : ◌≡◌ {A = ℕ} (cond (nat_eq token token) 1 0) 1 = ap {B = ℕ} (λ b. cond b 1 0) (eq-eqb token token refl) in
-      ap (times_on token) begins ∙ sum_by-cons (λ (x : ℕ × ℕ). cond (nat_eq token x.0) 1 0) (token, client) rest ∙ ap (λ (n : ℕ). n + times_on token rest) one
+      ap (times_on token) begins ∙ sum_by-cons (λ (x : ℕ × ℕ). cond (nat_eq token x.0) 1 0) (token, client) rest
+      ∙ ap (λ (n : ℕ). n + times_on token rest) one
 
   none_after : times_on token rest ≡ 0
   none_after = omega (arith, once token, here, sum-below-part (length y) wire times inside)
@@ -61,7 +63,8 @@ module _ (y : Lists) (token client wire : ℕ) (rest : List (ℕ × ℕ)) (once 
   pub first-there : IsThere y token client wire
   first-there =
       let found : lookup (nat_eq token) (on y wire) ≡ Some client = ap (lookup (nat_eq token)) begins ∙ rw (eq-eqb token token refl) refl in
-      there y token client wire (once token) (standing-only (length y) y token wire client inside found (λ u other. nowhere token (on y u) (none-elsewhere u other)))
+      there y token client wire (once token) (standing-only (length y) y token wire client inside found
+      (λ u other. nowhere token (on y u) (none-elsewhere u other)))
 
   -- the tokens after it are left on its wire, and all on other wires
   pub rest-on : without token (on y wire) ≡ rest
@@ -93,8 +96,16 @@ module _ (y : Lists) (token client wire : ℕ) (rest : List (ℕ × ℕ)) (once 
           last_on-sum token client to u f,
           first-there.less u f,
         ) in
-        let moved = sum-below-shift (length y) (λ u. sum_by f (on z u)) moved_from (λ u. sum_by f (on y u)) (λ u. when (eqb to u) (f (token, client))) each in
-        omega (arith, once k, all-z, moved, sum-below-one (length y) wire (f (token, client)) inside, sum-below-one (length y) to (f (token, client)) lands)
+        let moved = sum-below-shift (length y) (λ u. sum_by f (on z u)) moved_from (λ u. sum_by f (on y u))
+        (λ u. when (eqb to u) (f (token, client))) each in
+        omega (
+          arith,
+          once k,
+          all-z,
+          moved,
+          sum-below-one (length y) wire (f (token, client)) inside,
+          sum-below-one (length y) to (f (token, client)) lands,
+        )
 
     pub once-gone : ((u : ℕ) → on z u ≡ without token (on y u)) → times_in z k ≤ 1
     once-gone lists =

@@ -11,7 +11,8 @@ use Rattle.cn_yard.proofs.Taken.{IsFirst, first-there, once-moved, others-on, re
 -- ---- one after the other
 
 -- a move after others
-deals-next : (outs : ℕ → ℕ) (output : ℕ) (done : List (ℕ × ℕ)) (old between new : Yard) (token client : ℕ) → Deals outs output done old between
+deals-next : (outs : ℕ → ℕ) (output : ℕ) (done : List (ℕ × ℕ)) (old between new : Yard) (token client : ℕ)
+    → Deals outs output done old between
     → Moves between new token client (outs ((output + length done) % 2)) → Deals outs output (done ++ (token, client) ∷ []) old new
 unfolding Deals
 deals-next outs output [] old between new token client same moves =
@@ -19,8 +20,12 @@ deals-next outs output [] old between new token client same moves =
   where
     zero-more : (n : ℕ) → n + 0 ≡ n
     zero-more n = omega arith
-deals-next outs output (e ∷ done) old between new token client (first, one, rest) moves =
-    (first, one, deals-next outs (output + 1) done first between new token client rest (subst (λ (n : ℕ). Moves between new token client (outs (n % 2))) (one-more (length done) (length (e ∷ done)) refl) moves))
+deals-next outs output (e ∷ done) old between new token client (first, one, rest) moves = (
+  first,
+  one,
+  deals-next outs (output + 1) done first between new token client rest
+      (subst (λ (n : ℕ). Moves between new token client (outs (n % 2))) (one-more (length done) (length (e ∷ done)) refl) moves),
+)
   where
     one-more : (n k : ℕ) → k ≡ suc n → output + k ≡ output + 1 + n
     one-more n k is = omega (arith, is)
@@ -36,7 +41,8 @@ pub record IsDealing (outs : ℕ → ℕ) (output wire : ℕ) (old now : Yard) (
   pub once : (k : ℕ) → times_in now.lists k ≤ 1
   pub wires : length now.lists ≡ length old.lists
 
-pub begins : (outs : ℕ → ℕ) (output wire : ℕ) (old : Yard) → output < 2 → ((k : ℕ) → times_in old.lists k ≤ 1) → IsDealing outs output wire old old output
+pub begins : (outs : ℕ → ℕ) (output wire : ℕ) (old : Yard) → output < 2 → ((k : ℕ) → times_in old.lists k ≤ 1)
+    → IsDealing outs output wire old old output
 unfolding Deals
 begins outs output wire old low once = record {
   done = [];
@@ -49,7 +55,8 @@ begins outs output wire old low once = record {
   wires = refl;
 }
 
-module _ (outs : ℕ → ℕ) (output wire : ℕ) (old y : Yard) (turn token : ℕ) (is : IsDealing outs output wire old y turn) (inside : wire < length old.lists) (next : IsFirst wire y token) where
+module _ (outs : ℕ → ℕ) (output wire : ℕ) (old y : Yard) (turn token : ℕ) (is : IsDealing outs output wire old y turn)
+    (inside : wire < length old.lists) (next : IsFirst wire y token) where
   within : wire < length y.lists
   within = omega (arith, inside, is.wires)
 
@@ -61,23 +68,28 @@ module _ (outs : ℕ → ℕ) (output wire : ℕ) (old y : Yard) (turn token : �
   pub goes-on : (z : Yard) (to : ℕ) → to ≡ outs turn → to < length old.lists → wire ≢ to → Moves y z token next.client to
       → IsDealing outs output wire old z (1 - turn)
   goes-on z to at lands differ moves =
-      let left : without token (on y.lists wire) ≡ next.after = rest-on y.lists token next.client wire next.after is.once within next.begins in
+      let left : without token (on y.lists wire) ≡ next.after =
+      rest-on y.lists token next.client wire next.after is.once within next.begins in
       let none : last_on token next.client to wire ≡ [] = rw (ne_eqb to wire (λ e. differ (sym e))) refl in
       record {
         done = is.done ++ (token, next.client) ∷ [];
         rest = next.after;
-        whole = is.whole ∙ ap (λ (es : List (ℕ × ℕ)). is.done ++ es) (sym is.left ∙ next.begins) ∙ sym (append_assoc is.done ((token, next.client) ∷ []) next.after);
+        whole = is.whole ∙ ap (λ (es : List (ℕ × ℕ)). is.done ++ es) (sym is.left ∙ next.begins)
+            ∙ sym (append_assoc is.done ((token, next.client) ∷ []) next.after);
         left = moves.lists wire ∙ (λ i. left i ++ none i) ∙ append-nil next.after;
-        dealt = deals-next outs output is.done old y z token next.client is.dealt (subst (λ (u : ℕ). Moves y z token next.client u) (at ∙ ap outs is.output_is) moves);
+        dealt = deals-next outs output is.done old y z token next.client is.dealt
+            (subst (λ (u : ℕ). Moves y z token next.client u) (at ∙ ap outs is.output_is) moves);
         output_is = omega (arith, is.output_is, length_push is.done (token, next.client));
-        once = λ k. once-moved y.lists token next.client wire next.after is.once within next.begins z.lists moves.wires k to (omega (arith, lands, is.wires)) moves.lists;
+        once = λ k. once-moved y.lists token next.client wire next.after is.once within next.begins z.lists moves.wires k to
+            (omega (arith, lands, is.wires)) moves.lists;
         wires = moves.wires ∙ is.wires;
       }
 
   -- one is left less
   pub fewer : (z : Yard) (to : ℕ) → wire ≢ to → Moves y z token next.client to → length (on z.lists wire) < length (on y.lists wire)
   fewer z to differ moves =
-      let left : without token (on y.lists wire) ≡ next.after = rest-on y.lists token next.client wire next.after is.once within next.begins in
+      let left : without token (on y.lists wire) ≡ next.after =
+      rest-on y.lists token next.client wire next.after is.once within next.begins in
       let none : last_on token next.client to wire ≡ [] = rw (ne_eqb to wire (λ e. differ (sym e))) refl in
       let now : on z.lists wire ≡ next.after = moves.lists wire ∙ (λ i. left i ++ none i) ∙ append-nil next.after in
       omega (arith, ap length now, ap length next.begins)
@@ -86,7 +98,8 @@ module _ (outs : ℕ → ℕ) (output wire : ℕ) (old y : Yard) (turn token : �
 pub ends : (outs : ℕ → ℕ) (output wire : ℕ) (old now : Yard) (turn : ℕ) → IsDealing outs output wire old now turn → on now.lists wire ≡ []
     → Deals outs output (on old.lists wire) old now
 ends outs output wire old now turn is none =
-    let whole : on old.lists wire ≡ is.done = is.whole ∙ ap (λ (es : List (ℕ × ℕ)). is.done ++ es) (sym is.left ∙ none) ∙ append-nil is.done in
+    let whole : on old.lists wire ≡ is.done =
+    is.whole ∙ ap (λ (es : List (ℕ × ℕ)). is.done ++ es) (sym is.left ∙ none) ∙ append-nil is.done in
     subst (λ (es : List (ℕ × ℕ)). Deals outs output es old now) (sym whole) is.dealt
 
 -- ---- where the tokens stand then
@@ -129,7 +142,8 @@ module _ (out0 out1 : ℕ) (differ : out0 ≢ out1) where
   not-here token client wire u other = rw (ne_eqb wire u other) refl
 
   -- a token more comes to the first wire, or to the second
-  more-first : (token client u : ℕ) (rest : List (ℕ × ℕ)) → last_on token client out0 u ++ comes 1 rest u ≡ comes 0 ((token, client) ∷ rest) u
+  more-first : (token client u : ℕ) (rest : List (ℕ × ℕ))
+      → last_on token client out0 u ++ comes 1 rest u ≡ comes 0 ((token, client) ∷ rest) u
   unfolding every_second
   more-first token client u rest = elim (cases_eq out0 u) [
     | inl e ↦ subst (λ (x : ℕ). last_on token client out0 x ++ comes 1 rest x ≡ comes 0 ((token, client) ∷ rest) x) e
@@ -143,11 +157,13 @@ module _ (out0 out1 : ℕ) (differ : out0 ≢ out1) where
     ]
   ]
 
-  more-second : (token client u : ℕ) (rest : List (ℕ × ℕ)) → last_on token client out1 u ++ comes 0 rest u ≡ comes 1 ((token, client) ∷ rest) u
+  more-second : (token client u : ℕ) (rest : List (ℕ × ℕ))
+      → last_on token client out1 u ++ comes 0 rest u ≡ comes 1 ((token, client) ∷ rest) u
   unfolding every_second
   more-second token client u rest = elim (cases_eq out0 u) [
     | inl e ↦ subst (λ (x : ℕ). last_on token client out1 x ++ comes 0 rest x ≡ comes 1 ((token, client) ∷ rest) x) e
-        ((λ i. not-here token client out1 out0 (λ same. differ (sym same)) i ++ at-first 0 rest i) ∙ sym (at-first 1 ((token, client) ∷ rest)))
+        ((λ i. not-here token client out1 out0 (λ same. differ (sym same)) i ++ at-first 0 rest i)
+        ∙ sym (at-first 1 ((token, client) ∷ rest)))
     | inr other ↦ elim (cases_eq out1 u) [
       | inl e ↦ subst (λ (x : ℕ). last_on token client out1 x ++ comes 0 rest x ≡ comes 1 ((token, client) ∷ rest) x) e
           ((λ i. here token client out1 i ++ at-second 0 rest i) ∙ sym (at-second 1 ((token, client) ∷ rest)))
@@ -158,10 +174,12 @@ module _ (out0 out1 : ℕ) (differ : out0 ≢ out1) where
   ]
 
   more : (output token client u : ℕ) (rest : List (ℕ × ℕ))
-      → last_on token client (out_of out0 out1 (output % 2)) u ++ comes ((output + 1) % 2) rest u ≡ comes (output % 2) ((token, client) ∷ rest) u
+      → last_on token client (out_of out0 out1 (output % 2)) u ++ comes ((output + 1) % 2) rest u
+      ≡ comes (output % 2) ((token, client) ∷ rest) u
   more output token client u rest = by (output % 2) ((output + 1) % 2) (omega arith) (omega arith)
     where
-      by : (p q : ℕ) → p < 2 → q ≡ 1 - p → last_on token client (out_of out0 out1 p) u ++ comes q rest u ≡ comes p ((token, client) ∷ rest) u
+      by : (p q : ℕ) → p < 2 → q ≡ 1 - p → last_on token client (out_of out0 out1 p) u ++ comes q rest u
+          ≡ comes p ((token, client) ∷ rest) u
       by zero q low is = rw is (more-first token client u rest)
       by (suc zero) q low is = rw is (more-second token client u rest)
       by (suc (suc p)) q low is = absurd (omega arith)
@@ -174,13 +192,16 @@ module _ (out0 out1 : ℕ) (differ : out0 ≢ out1) where
     spare : new.spare ≡ old.spare
     count : tokens_in new.lists ≡ tokens_in old.lists
 
-  dealt-lists : (wire output : ℕ) (tokens : List (ℕ × ℕ)) (old new : Yard) → wire ≢ out0 → wire ≢ out1 → wire < length old.lists → out0 < length old.lists → out1 < length old.lists
-      → ((k : ℕ) → times_in old.lists k ≤ 1) → on old.lists wire ≡ tokens → Deals (out_of out0 out1) output tokens old new → AreDealt wire (output % 2) tokens old new
+  dealt-lists : (wire output : ℕ) (tokens : List (ℕ × ℕ)) (old new : Yard) → wire ≢ out0 → wire ≢ out1 → wire < length old.lists
+      → out0 < length old.lists → out1 < length old.lists
+      → ((k : ℕ) → times_in old.lists k ≤ 1) → on old.lists wire ≡ tokens → Deals (out_of out0 out1) output tokens old new
+      → AreDealt wire (output % 2) tokens old new
   unfolding Deals
   dealt-lists wire output [] old new differ0 differ1 inside in0 in1 once is same = record {
     wires = ap (λ (y : Yard). length y.lists) same;
     empty = ap (λ (y : Yard). on y.lists wire) same ∙ is;
-    others = λ u other. ap (λ (y : Yard). on y.lists u) same ∙ sym (append-nil (on old.lists u)) ∙ ap (λ (es : List (ℕ × ℕ)). on old.lists u ++ es) (sym (nothing-comes (output % 2) u));
+    others = λ u other. ap (λ (y : Yard). on y.lists u) same ∙ sym (append-nil (on old.lists u))
+        ∙ ap (λ (es : List (ℕ × ℕ)). on old.lists u ++ es) (sym (nothing-comes (output % 2) u));
     spare = ap (λ (y : Yard). y.spare) same;
     count = ap (λ (y : Yard). tokens_in y.lists) same;
   }
@@ -189,23 +210,30 @@ module _ (out0 out1 : ℕ) (differ : out0 ≢ out1) where
       let lands : to < length old.lists = either-out (λ u. u < length old.lists) out0 out1 (output % 2) in0 in1 in
       let away : wire ≢ to = either-out (λ u. wire ≢ u) out0 out1 (output % 2) differ0 differ1 in
       let left : on between.lists wire ≡ rest =
-      moves.lists wire ∙ (λ i. rest-on old.lists token client wire rest once inside is i ++ not-here token client to wire (λ e. away (sym e)) i) ∙ append-nil rest in
-      let once_more : (k : ℕ) → times_in between.lists k ≤ 1 = λ k. once-moved old.lists token client wire rest once inside is between.lists moves.wires k to lands moves.lists in
-      let after = dealt-lists wire (output + 1) rest between new differ0 differ1 (omega (arith, inside, moves.wires)) (omega (arith, in0, moves.wires)) (omega (arith, in1, moves.wires)) once_more left later in
+      moves.lists wire ∙ (λ i. rest-on old.lists token client wire rest once inside is i
+      ++ not-here token client to wire (λ e. away (sym e)) i) ∙ append-nil rest in
+      let once_more : (k : ℕ) → times_in between.lists k ≤ 1 =
+      λ k. once-moved old.lists token client wire rest once inside is between.lists moves.wires k to lands moves.lists in
+      let after = dealt-lists wire (output + 1) rest between new differ0 differ1 (omega (arith, inside, moves.wires))
+      (omega (arith, in0, moves.wires)) (omega (arith, in1, moves.wires)) once_more left later in
       record {
         wires = after.wires ∙ moves.wires;
         empty = after.empty;
         others = λ u other.
             after.others u other
-            ∙ ap (λ (es : List (ℕ × ℕ)). es ++ comes ((output + 1) % 2) rest u) (moves.lists u ∙ ap (λ (es : List (ℕ × ℕ)). es ++ last_on token client to u) (others-on old.lists token client wire rest once inside is u other))
+            ∙ ap (λ (es : List (ℕ × ℕ)). es ++ comes ((output + 1) % 2) rest u)
+            (moves.lists u ∙ ap (λ (es : List (ℕ × ℕ)). es ++ last_on token client to u)
+            (others-on old.lists token client wire rest once inside is u other))
             ∙ append_assoc (on old.lists u) (last_on token client to u) (comes ((output + 1) % 2) rest u)
             ∙ ap (λ (es : List (ℕ × ℕ)). on old.lists u ++ es) (more output token client u rest);
         spare = after.spare ∙ moves.spare;
         count = after.count ∙ moves.tokens;
       }
 
-  pub dealt : (wire output : ℕ) (old new : Yard) → wire ≢ out0 → wire ≢ out1 → wire < length old.lists → out0 < length old.lists → out1 < length old.lists → output < 2
-      → ((k : ℕ) → times_in old.lists k ≤ 1) → Deals (out_of out0 out1) output (on old.lists wire) old new → IsDealt wire output out0 out1 old new
+  pub dealt : (wire output : ℕ) (old new : Yard) → wire ≢ out0 → wire ≢ out1 → wire < length old.lists → out0 < length old.lists
+      → out1 < length old.lists → output < 2
+      → ((k : ℕ) → times_in old.lists k ≤ 1) → Deals (out_of out0 out1) output (on old.lists wire) old new
+      → IsDealt wire output out0 out1 old new
   dealt wire output old new differ0 differ1 inside in0 in1 low once deals =
       let all = dealt-lists wire output (on old.lists wire) old new differ0 differ1 inside in0 in1 once refl deals in
       let same : output % 2 ≡ output = omega (arith, low) in
@@ -213,9 +241,14 @@ module _ (out0 out1 : ℕ) (differ : out0 ≢ out1) where
       record {
         wires = all.wires;
         empty = all.empty;
-        first = all.others out0 (λ e. differ0 (sym e)) ∙ ap (λ (es : List (ℕ × ℕ)). on old.lists out0 ++ es) (at-first (output % 2) tokens ∙ ap (λ (p : ℕ). every_second p tokens) same);
-        second = all.others out1 (λ e. differ1 (sym e)) ∙ ap (λ (es : List (ℕ × ℕ)). on old.lists out1 ++ es) (at-second (output % 2) tokens ∙ ap (λ (p : ℕ). every_second (1 - p) tokens) same);
-        others = λ u other first second. all.others u other ∙ ap (λ (es : List (ℕ × ℕ)). on old.lists u ++ es) (at-other (output % 2) tokens u first second) ∙ append-nil (on old.lists u);
+        first = all.others out0 (λ e. differ0 (sym e))
+            ∙ ap (λ (es : List (ℕ × ℕ)). on old.lists out0 ++ es)
+            (at-first (output % 2) tokens ∙ ap (λ (p : ℕ). every_second p tokens) same);
+        second = all.others out1 (λ e. differ1 (sym e))
+            ∙ ap (λ (es : List (ℕ × ℕ)). on old.lists out1 ++ es)
+            (at-second (output % 2) tokens ∙ ap (λ (p : ℕ). every_second (1 - p) tokens) same);
+        others = λ u other first second. all.others u other
+            ∙ ap (λ (es : List (ℕ × ℕ)). on old.lists u ++ es) (at-other (output % 2) tokens u first second) ∙ append-nil (on old.lists u);
         spare = all.spare;
         tokens = all.count;
       }

@@ -54,7 +54,8 @@ module _ (n p : ℕ → ℕ) where
         ];
         last = elim (cases_eq line.last t) [
           | inl h ↦ let f : eqb line.last t ≡ true = grind (arith, nat_tests) in rw f (tail-left t x xs c one (e.last ∙ h))
-          | inr o ↦ let f : eqb line.last t ≡ false = grind (arith, nat_tests) in rw f (last-but t line.last (x ∷ xs) (λ k. o (sym e.last ∙ k)) ∙ e.last)
+          | inr o ↦ let f : eqb line.last t ≡ false = grind (arith, nat_tests) in
+              rw f (last-but t line.last (x ∷ xs) (λ k. o (sym e.last ∙ k)) ∙ e.last)
         ];
       }
 
@@ -76,8 +77,10 @@ module _ (n p : ℕ → ℕ) where
   neighbours line t (x ∷ xs) e c one end =
       let at = e.first in
       let m = times-cons t x xs in
-      let o : x ≢ t = λ h. absurd (grind (arith, nat_tests)) in
-      (prev-in n p t x xs c (grind (arith, nat_tests)), next-in n p t line.last (x ∷ xs) c (omega arith) (λ h. absurd (let k = sym e.last ∙ h in grind (arith, nat_tests))))
+      let o : x ≢ t = λ h. absurd (grind (arith, nat_tests)) in (
+        prev-in n p t x xs c (grind (arith, nat_tests)),
+        next-in n p t line.last (x ∷ xs) c (omega arith) (λ h. absurd (let k = sym e.last ∙ h in grind (arith, nat_tests))),
+      )
 
 -- the links, where its neighbours were tied
 pub chain-mid : (n p n' p' : ℕ → ℕ) (line : Line) (t : ℕ) (xs : List ℕ) → Ends line xs → Chain n p xs → times t xs ≡ 1
@@ -90,7 +93,8 @@ chain-mid n p n' p' line t (x ∷ xs) e c one once end a b =
     let at = e.first in
     let m = times-cons t x xs in
     let o : x ≢ t = λ h. absurd (grind (arith, nat_tests)) in
-    rw (but-cons t x xs o) (chain-but n p n' p' t x xs c (grind (arith, nat_tests)) (λ h. absurd (let k = sym e.last ∙ h in grind (arith, nat_tests))) once a b)
+    rw (but-cons t x xs o) (chain-but n p n' p' t x xs c (grind (arith, nat_tests))
+    (λ h. absurd (let k = sym e.last ∙ h in grind (arith, nat_tests))) once a b)
 
 -- ---- all lines
 
@@ -116,7 +120,8 @@ pub record Unlinks (records : List Record) (lines : List Line) (records' : List 
       → records' ≡ records
   pub between : (eqb (line_of lines (wire_of records t)).first t || eqb (line_of lines (wire_of records t)).last t) ≡ false
       → IsLink records records' (prev_of records t) (next_of records t)
-  pub lines_are : lines' ≡ set lines (wire_of records t) (line_without (line_of lines (wire_of records t)) t (prev_of records t) (next_of records t))
+  pub lines_are : lines' ≡ set lines (wire_of records t)
+      (line_without (line_of lines (wire_of records t)) t (prev_of records t) (next_of records t))
 
 -- a test holds or does not
 cases-bool : (b : Bool) → (b ≡ true) ⊎ (b ≡ false)
@@ -138,10 +143,12 @@ off-kept records lines records' lines' t h some un =
       client = λ z. elim which [ inl e ↦ rw (un.at_end e) refl | inr e ↦ (un.between e).client z ];
       count = λ u. elim (cases_eq w u) [
         | inl e ↦ let f : eqb w u ≡ true = grind (arith, nat_tests) in
-            let c : count_of (set lines w new) w ≡ count_of lines w - 1 = ap (λ (x : Line). x.count) (get_or-set_same lines w new no_line h) in
+            let c : count_of (set lines w new) w ≡ count_of lines w - 1 =
+            ap (λ (x : Line). x.count) (get_or-set_same lines w new no_line h) in
             rw (f, un.lines_are) (subst (λ (v : ℕ). count_of (set lines w new) v + 1 ≡ count_of lines v) e (omega (arith, c)))
         | inr o ↦ let f : eqb w u ≡ false = grind (arith, nat_tests) in
-            let c : count_of (set lines w new) u ≡ count_of lines u = ap (λ (x : Line). x.count) (get_or-set_other lines w u new no_line (λ k. o (sym k))) in
+            let c : count_of (set lines w new) u ≡ count_of lines u =
+            ap (λ (x : Line). x.count) (get_or-set_other lines w u new no_line (λ k. o (sym k))) in
             rw (f, un.lines_are) (omega (arith, c))
       ];
     }
@@ -163,7 +170,8 @@ off-linked records lines records' lines' order t l h one un kept =
           elim (cases_eq u w) [
             | inl e ↦ rw e (elim which [
               | inl end ↦ rw (un.at_end end) (chain-end n p (line_of lines w) t (order w) (l.ends w h) (l.chain w h) one end)
-              | inr mid ↦ chain-mid n p (next_of records') (prev_of records') (line_of lines w) t (order w) (l.ends w h) (l.chain w h) one (one-line records lines order l w h) mid (un.between mid).next (un.between mid).prev
+              | inr mid ↦ chain-mid n p (next_of records') (prev_of records') (line_of lines w) t (order w) (l.ends w h) (l.chain w h) one
+                  (one-line records lines order l w h) mid (un.between mid).next (un.between mid).prev
             ])
             | inr o ↦
                 let k = l.once t u hu in
@@ -173,14 +181,19 @@ off-linked records lines records' lines' order t l h one un kept =
                   | inr mid ↦
                       let near = neighbours n p (line_of lines w) t (order w) (l.ends w h) (l.chain w h) one mid in
                       chain-same n p (next_of records') (prev_of records') (order u) (l.chain u hu)
-                      (λ z in'. let a = (un.between mid).next z in let q : z ≢ p t = λ e. absurd (o (once-at records lines order l z u w hu h in' (rw e near.0))) in grind (arith, nat_tests))
-                      (λ z in'. let a = (un.between mid).prev z in let q : z ≢ n t = λ e. absurd (o (once-at records lines order l z u w hu h (in-tail z (order u) in') (rw e near.1))) in grind (arith, nat_tests))
+                      (λ z in'. let a = (un.between mid).next z in
+                      let q : z ≢ p t = λ e. absurd (o (once-at records lines order l z u w hu h in' (rw e near.0))) in
+                      grind (arith, nat_tests))
+                      (λ z in'. let a = (un.between mid).prev z in
+                      let q : z ≢ n t = λ e. absurd (o (once-at records lines order l z u w hu h (in-tail z (order u) in')
+                      (rw e near.1))) in grind (arith, nat_tests))
                 ])
           ];
       ends = λ u within.
           let hu : u < length lines = rw kept.as_many at within in
           rw un.lines_are (elim (cases_eq u w) [
-            | inl e ↦ rw e (rw (get_or-set_same lines w new no_line h) (ends-but n p (line_of lines w) t (order w) (l.ends w h) (l.chain w h) one))
+            | inl e ↦ rw e (rw (get_or-set_same lines w new no_line h)
+                (ends-but n p (line_of lines w) t (order w) (l.ends w h) (l.chain w h) one))
             | inr o ↦
                 let k = l.once t u hu in
                 let none : times t (order u) ≡ 0 = grind (arith, nat_tests) in

@@ -21,7 +21,9 @@ use Rattle.cn_yard.proofs.Standings.{standing-none, standing-only}
 pub times-clients : (client : ℕ → ℕ) (t : ℕ) (xs : List ℕ) → count_by (λ e. nat_eq t e.0) (with_clients client xs) ≡ times t xs
 times-clients client t [] = let none = times-nil t in grind (arith, nat_tests)
 times-clients client t (x ∷ xs) =
-    let more : count_by (λ e. nat_eq t e.0) (with_clients client (x ∷ xs)) ≡ cond (nat_eq t x) 1 0 + count_by (λ e. nat_eq t e.0) (with_clients client xs) = sum_by-cons (λ e. cond (nat_eq t e.0) 1 0) (x, client x) (with_clients client xs) in
+    let more : count_by (λ e. nat_eq t e.0) (with_clients client (x ∷ xs))
+    ≡ cond (nat_eq t x) 1 0 + count_by (λ e. nat_eq t e.0) (with_clients client xs) =
+    sum_by-cons (λ e. cond (nat_eq t e.0) 1 0) (x, client x) (with_clients client xs) in
     let here = times-cons t x xs in
     let rest = times-clients client t xs in
     grind (arith, nat_tests)
@@ -37,7 +39,8 @@ lookup-in client t [] h = absurd (omega (arith, times-nil t))
 lookup-in client t (x ∷ xs) h =
     elim (cases_eq x t) [
       | inl e ↦ let f : nat_eq t x ≡ true = grind (arith, nat_tests) in rw f (ap (λ (n : ℕ). Some (client n)) e)
-      | inr o ↦ let f : nat_eq t x ≡ false = grind (arith, nat_tests) in rw f (lookup-in client t xs (let m = times-cons t x xs in grind (arith, nat_tests)))
+      | inr o ↦ let f : nat_eq t x ≡ false = grind (arith, nat_tests) in
+          rw f (lookup-in client t xs (let m = times-cons t x xs in grind (arith, nat_tests)))
     ]
 
 -- without one of them
@@ -46,7 +49,8 @@ without-clients client t [] = refl
 without-clients client t (x ∷ xs) = by (nat_eq t x) (without-clients client t xs)
   where
     by : (b : Bool) → without t (with_clients client xs) ≡ with_clients client (but t xs)
-        → cond {A = List (ℕ × ℕ)} (not b) ((x, client x) ∷ without t (with_clients client xs)) (without t (with_clients client xs)) ≡ with_clients client (cond {A = List ℕ} (not b) (x ∷ but t xs) (but t xs))
+        → cond {A = List (ℕ × ℕ)} (not b) ((x, client x) ∷ without t (with_clients client xs)) (without t (with_clients client xs))
+        ≡ with_clients client (cond {A = List ℕ} (not b) (x ∷ but t xs) (but t xs))
     by true rest = rest
     by false rest = ap (λ es. (x, client x) ∷ es) rest
 
@@ -84,7 +88,8 @@ after-clients n p client t d (x ∷ y ∷ ys) c one =
       | inl e ↦
           let f : eqb t x ≡ true = grind (arith, nat_tests) in
           let last = last-in y ys in
-          let other : last_or y ys ≢ t = λ h. absurd (let k : 1 ≤ times t (y ∷ ys) = subst (λ (k : ℕ). 1 ≤ times k (y ∷ ys)) h last in grind (arith, nat_tests)) in
+          let other : last_or y ys ≢ t = λ h. absurd
+          (let k : 1 ≤ times t (y ∷ ys) = subst (λ (k : ℕ). 1 ≤ times k (y ∷ ys)) h last in grind (arith, nat_tests)) in
           let g : eqb (last_or y ys) t ≡ false = grind (arith, nat_tests) in
           rw (f, g) (ap (λ (k : ℕ). Some k) (sym (chain-tied n p x y ys c).0 ∙ ap n e))
       | inr o ↦
@@ -111,17 +116,20 @@ module _ (y : Inside) (order : ℕ → List ℕ) (k : Keeps y order) where
   pub walked-is : (u : ℕ) → u < length y.lines.items → walked y.records.items y.lines.items u ≡ order u
   walked-is u h =
       let e = k.lined.links.linked.ends u h in
-      rw (e.count, ← e.first) (walk-chain (next_of y.records.items) (prev_of y.records.items) (line_of y.lines.items u).first (order u) (k.lined.links.linked.chain u h))
+      rw (e.count, ← e.first) (walk-chain (next_of y.records.items) (prev_of y.records.items) (line_of y.lines.items u).first (order u)
+      (k.lined.links.linked.chain u h))
 
   -- each list is the line with its clients
   pub on-wire : (u : ℕ) → u < y.wires → on (lists_of y) u ≡ with_clients (client_of y.records.items) (order u)
   on-wire u h =
-      get_or-map-range_with_len (λ w. with_clients (client_of y.records.items) (walked y.records.items y.lines.items w)) 0 y.wires u u [] h (omega arith)
+      get_or-map-range_with_len (λ w. with_clients (client_of y.records.items) (walked y.records.items y.lines.items w)) 0 y.wires u u [] h
+      (omega arith)
       ∙ ap (λ xs. with_clients (client_of y.records.items) xs) (walked-is u (let w = k.wires in omega arith))
 
   -- as many stand on a wire as its line counts
   pub length-on : (u : ℕ) → u < y.wires → length (on (lists_of y) u) ≡ count_of y.lines.items u
-  length-on u h = ap length (on-wire u h) ∙ length-map (order u) (λ n. (n, client_of y.records.items n)) ∙ sym (k.lined.links.linked.ends u (let w = k.wires in omega arith)).count
+  length-on u h = ap length (on-wire u h) ∙ length-map (order u) (λ n. (n, client_of y.records.items n))
+      ∙ sym (k.lined.links.linked.ends u (let w = k.wires in omega arith)).count
 
   -- all records are tokens or free
   pub tokens-are : tokens_in (lists_of y) + count_of y.lines.items y.wires ≡ length y.records.items
@@ -130,14 +138,16 @@ module _ (y : Inside) (order : ℕ → List ℕ) (k : Keeps y order) where
       let free = (k.lined.links.linked.ends y.wires (omega arith)).count in
       let all : sum_below (y.wires + 1) (λ u. length (order u)) ≡ length y.records.items = rw w at k.lined.links.all in
       let last = sum-last y.wires (λ u. length (order u)) in
-      let same = sum-below-same y.wires (λ u. length (on (lists_of y) u)) (λ u. length (order u)) (λ u h. ap length (on-wire u h) ∙ length-map (order u) (λ n. (n, client_of y.records.items n))) in
+      let same = sum-below-same y.wires (λ u. length (on (lists_of y) u)) (λ u. length (order u))
+      (λ u h. ap length (on-wire u h) ∙ length-map (order u) (λ n. (n, client_of y.records.items n))) in
       rw (wires-are y) (omega arith)
 
   -- no token stands there twice
   pub times-most : (t : ℕ) → times_in (lists_of y) t ≤ 1
   times-most t =
       let most = sum-once y.wires (wire_of y.records.items t) (λ u. count_by (λ e. nat_eq t e.0) (on (lists_of y) u))
-      (λ u h. rw (on-wire u h, times-clients (client_of y.records.items) t (order u)) (k.lined.links.linked.once t u (let w = k.wires in omega arith))) in
+      (λ u h. rw (on-wire u h, times-clients (client_of y.records.items) t (order u))
+      (k.lined.links.linked.once t u (let w = k.wires in omega arith))) in
       rw (wires-are y) (grind (arith, nat_tests))
 
   -- ---- who stands where
@@ -164,7 +174,8 @@ module _ (y : Inside) (order : ℕ → List ℕ) (k : Keeps y order) where
   pub standing-free : (t : ℕ) → y.wires ≤ wire_of y.records.items t → standing (lists_of y) t ≡ None
   standing-free t free =
       let as_many = k.wires in
-      standing-none (length (lists_of y)) (lists_of y) t (λ u h. lookup-none t u (λ l. let once = k.lined.links.linked.once t u (omega arith) in grind (arith, nat_tests)))
+      standing-none (length (lists_of y)) (lists_of y) t
+      (λ u h. lookup-none t u (λ l. let once = k.lined.links.linked.once t u (omega arith) in grind (arith, nat_tests)))
 
   pub standing-past : (t : ℕ) → length y.records.items ≤ t → standing (lists_of y) t ≡ None
   standing-past t past =
@@ -202,7 +213,8 @@ on-moved y z order t to k k' wires same u h =
     let client = client_of y.records.items in
     let client' = client_of z.records.items in
     let here = on-wire z (moved order t to) k' u (omega (arith, wires)) in
-    let parts : with_clients client' (but t (order u) ++ last_of t to u) ≡ with_clients client' (but t (order u)) ++ with_clients client' (last_of t to u) =
+    let parts : with_clients client' (but t (order u) ++ last_of t to u)
+    ≡ with_clients client' (but t (order u)) ++ with_clients client' (last_of t to u) =
     map-append (λ n. (n, client' n)) (but t (order u)) (last_of t to u) in
     let kept : with_clients client' (but t (order u)) ≡ without t (on (lists_of y) u) =
     clients-same client client' (but t (order u)) still

@@ -20,10 +20,16 @@ entries_by entry (id ∷ ids) = ap (λ (es : List ℕ). entry ∷ es) (entries_b
 pub times-by : (entry id : ℕ) (ids : List ℕ) → count_by (λ c. c.id == id) (by_entry entry ids) ≡ times id ids
 times-by entry id [] = sym (times-nil id)
 times-by entry id (x ∷ ids) =
-    omega (arith, times-by entry id ids, times-cons id x ids, sum_by-cons (λ (c : Client). cond (c.id == id) 1 0) (record { id = x; entry = entry }) (by_entry entry ids))
+    omega (
+      arith,
+      times-by entry id ids,
+      times-cons id x ids,
+      sum_by-cons (λ (c : Client). cond (c.id == id) 1 0) (record { id = x; entry = entry }) (by_entry entry ids),
+    )
 
 -- clients of one entry are named together
-pub together : (a b : LaneValue) (ids : List ℕ) (entry : ℕ) → tokens_in a.yard.lists ≡ 0 → length ids ≤ a.room → AreNamed a b ids entry → WalksAll a b (by_entry entry ids)
+pub together : (a b : LaneValue) (ids : List ℕ) (entry : ℕ) → tokens_in a.yard.lists ≡ 0 → length ids ≤ a.room → AreNamed a b ids entry
+    → WalksAll a b (by_entry entry ids)
 together a b ids entry out room is =
     let (most, grew, many, often) = is.grants in
     let long : length (by_entry entry ids) ≡ length ids = length-map ids (λ (id : ℕ). record { id = id; entry = entry }) in
@@ -74,7 +80,8 @@ pub take_both : {X : Type 0} (i n : ℕ) (xs : List X) → i ≤ length xs → t
 take_both zero n xs few = ap (λ (k : ℕ). take k xs) (let none : 0 + n ≡ n = omega arith in none)
 take_both (suc i) n [] few = absurd (omega (arith, few))
 take_both (suc i) n (x ∷ xs) few =
-    ap (λ (k : ℕ). take k (x ∷ xs)) (let one : suc i + n ≡ suc (i + n) = omega arith in one) ∙ ap (λ (ys : List _). x ∷ ys) (take_both i n xs (omega (arith, few)))
+    ap (λ (k : ℕ). take k (x ∷ xs)) (let one : suc i + n ≡ suc (i + n) = omega arith in one)
+    ∙ ap (λ (ys : List _). x ∷ ys) (take_both i n xs (omega (arith, few)))
 
 pub map-part : {X Y : Type 0} (f : X → Y) (i n : ℕ) (xs : List X) → map f (take n (drop i xs)) ≡ take n (drop i (map f xs))
 map-part f zero zero xs = refl
@@ -85,17 +92,20 @@ map-part f (suc i) (suc n) [] = refl
 map-part f (suc i) n (x ∷ xs) = map-part f i n xs
 
 -- clients who all come in by one entry, by their identities
-pub by-run : (n entry : ℕ) (clients : List c.Client) → n ≤ length clients → ((i : ℕ) (d : c.Client) → i < n → (get_or clients i d).entry ≡ entry)
+pub by-run : (n entry : ℕ) (clients : List c.Client) → n ≤ length clients
+    → ((i : ℕ) (d : c.Client) → i < n → (get_or clients i d).entry ≡ entry)
     → map client_from (take n clients) ≡ by_entry entry (map (λ d. d.client) (take n clients))
 by-run zero entry clients few same = refl
 by-run (suc n) entry [] few same = absurd (omega (arith, few))
 by-run (suc n) entry (x ∷ clients) few same =
     let here : x.entry ≡ entry = same 0 x (omega arith) in
     ap (λ (k : ℕ). record { id = x.client; entry = k } ∷ map client_from (take n clients)) here
-    ∙ ap (λ (ds : List Client). record { id = x.client; entry = entry } ∷ ds) (by-run n entry clients (omega (arith, few)) (λ i d l. same (suc i) d (omega (arith, l))))
+    ∙ ap (λ (ds : List Client). record { id = x.client; entry = entry } ∷ ds)
+    (by-run n entry clients (omega (arith, few)) (λ i d l. same (suc i) d (omega (arith, l))))
 
 -- a lane that had less room than was wanted, and got it first, named them all
-pub with-more-room : (a b : LaneValue) (clients : List c.Client) → a.room ≤ length clients → AreAllNamed (with_room (length clients) a) b clients → AreAllNamed a b clients
+pub with-more-room : (a b : LaneValue) (clients : List c.Client) → a.room ≤ length clients
+    → AreAllNamed (with_room (length clients) a) b clients → AreAllNamed a b clients
 with-more-room a b clients less is =
     let long : length (map client_from clients) ≡ length clients = length-map clients client_from in
     record {

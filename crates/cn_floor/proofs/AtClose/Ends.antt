@@ -31,7 +31,8 @@ not_both c d differ q r s = elim (cases_lt 0 c) [
       let none : ◌≡◌ {A = ℕ} (when (eqb 0 c && (q && r)) 1) 0 = ap {B = ℕ} (λ b. when (b && (q && r)) 1) (ne_eqb 0 c (λ e. omega arith)) in
       omega (arith, no_more (eqb 0 d) q s)
   | inr l ↦
-      let none : ◌≡◌ {A = ℕ} (when (eqb 0 d && (q && s)) 1) 0 = ap {B = ℕ} (λ b. when (b && (q && s)) 1) (ne_eqb 0 d (λ e. differ (omega arith))) in
+      let none : ◌≡◌ {A = ℕ} (when (eqb 0 d && (q && s)) 1) 0 =
+      ap {B = ℕ} (λ b. when (b && (q && s)) 1) (ne_eqb 0 d (λ e. differ (omega arith))) in
       omega (arith, no_more (eqb 0 c) q r)
 ]
 
@@ -40,7 +41,8 @@ module _ (t : Table) (words : List ℕ) where
   abbrev by-words : Ledger
   by-words = ledger_of t words words []
 
-  pub by-words-sound : ((end : End) → Stands t end → by-words.count end + sum_at t end by-words.on ≡ sum_at t end (put t by-words)) → IsSound t by-words
+  pub by-words-sound : ((end : End) → Stands t end → by-words.count end + sum_at t end by-words.on ≡ sum_at t end (put t by-words))
+      → IsSound t by-words
   by-words-sound balanced = record {
     balanced = balanced;
     clients = λ u. (0, λ k h. sum-below-zero k (λ _. 0) (λ _. refl));
@@ -49,11 +51,16 @@ module _ (t : Table) (words : List ℕ) where
         let has = both-there (eqb 0 c) (ltb v (count_in t words (Exit i))) (eqb (name_of t.width i v) name) (omega (arith, g)) in
         (exit-there i (omega (arith, ltb-true v (count_in t words (Exit i)) has.1)), sym (eqb-true (name_of t.width i v) name has.2));
     once = λ c i v name. omega (arith, no_more (eqb 0 c) (ltb v (count_in t words (Exit i))) (eqb (name_of t.width i v) name));
-    distinct = λ c d i v differ. omega (arith, not_both c d differ (ltb v (count_in t words (Exit i))) (eqb (name_of t.width i v) (name_of t.width i v)) (eqb (name_of t.width i v) (name_of t.width i v)));
+    distinct = λ c d i v differ. omega (
+      arith,
+      not_both c d differ (ltb v (count_in t words (Exit i))) (eqb (name_of t.width i v) (name_of t.width i v))
+          (eqb (name_of t.width i v) (name_of t.width i v)),
+    );
     owned = λ i v h g.
         let below : v < count_in t words (Exit i) = once-in (count_in t words (Exit i)) v (omega (arith, g)) in (
           0,
-          let one : ◌≡◌ {A = ℕ} (when (eqb 0 0 && (ltb v (count_in t words (Exit i)) && eqb (name_of t.width i v) (name_of t.width i v))) 1) 1 =
+          let one : ◌≡◌ {A = ℕ} (when (eqb 0 0 && (ltb v (count_in t words (Exit i)) && eqb (name_of t.width i v) (name_of t.width i v))) 1)
+              1 =
               rw (lt-ltb v (count_in t words (Exit i)) below, eq-eqb (name_of t.width i v) (name_of t.width i v) refl) refl in
               omega arith,
         );
@@ -77,7 +84,8 @@ module _ (start : Start) (began : IsStart start) where
       let net = began.network in
       tight t net.formed net.counts (ledger_of t start.words start.words []) began.carried.sound (λ u l. refl)
 
-  module _ (words : List ℕ) (views : List View) (sound : IsSound t (ledger_of t start.words words views)) (nobody : NobodyInside start views) where
+  module _ (words : List ℕ) (views : List View) (sound : IsSound t (ledger_of t start.words words views))
+      (nobody : NobodyInside start views) where
     pub tight-after : IsTight t (ledger_of t start.words words views)
     tight-after =
         let net = began.network in

@@ -41,18 +41,22 @@ module _ (grants : List Grant) (names : IsEachBelow (length grants) (map (λ (g 
 
   -- the clients of the first k grants stand at their names
   abbrev pub Stand : ℕ → List ℕ → Type 0
-  Stand k holders = (length holders ≡ length grants) × ((j : ℕ) (d : Grant) → j < k → get_or holders (get_or grants j d).name 0 ≡ (get_or grants j d).client)
+  Stand k holders = (length holders ≡ length grants)
+      × ((j : ℕ) (d : Grant) → j < k → get_or holders (get_or grants j d).name 0 ≡ (get_or grants j d).client)
 
-  pub one-more : (k : ℕ) (e : Grant) (holders : List ℕ) → k < length grants → Stand k holders → Stand (k + 1) (set holders (get_or grants k e).name (get_or grants k e).client)
+  pub one-more : (k : ℕ) (e : Grant) (holders : List ℕ) → k < length grants → Stand k holders
+      → Stand (k + 1) (set holders (get_or grants k e).name (get_or grants k e).client)
   one-more k e holders l (whole, each) =
       let g : Grant = get_or grants k e in (
         length-set holders g.name g.client ∙ whole,
         λ j d h. elim (cases_eq j k) [
           | inl same ↦
               let its : get_or grants j d ≡ g = ap (λ (i : ℕ). get_or grants i d) same ∙ default k d e l in
-              ap (λ (x : Grant). get_or (set holders g.name g.client) x.name 0) its ∙ get_or-set_same holders g.name g.client 0 (omega (arith, name-low k e l)) ∙ sym (ap (λ (x : Grant). x.client) its)
+              ap (λ (x : Grant). get_or (set holders g.name g.client) x.name 0) its
+              ∙ get_or-set_same holders g.name g.client 0 (omega (arith, name-low k e l)) ∙ sym (ap (λ (x : Grant). x.client) its)
           | inr other ↦
-              let differ : (get_or grants j d).name ≢ g.name = λ same. names-distinct j k d (omega arith) l (same ∙ ap (λ (x : Grant). x.name) (default k e d l)) in
+              let differ : (get_or grants j d).name ≢ g.name =
+              λ same. names-distinct j k d (omega arith) l (same ∙ ap (λ (x : Grant). x.name) (default k e d l)) in
               get_or-set_other holders g.name (get_or grants j d).name g.client 0 differ ∙ each j d (omega arith)
         ],
       )
@@ -71,7 +75,8 @@ module _ (grants : List Grant) (names : IsEachBelow (length grants) (map (λ (g 
       let at : ℕ → ℕ = λ n. get_or holders n 0 in
       let in_order : holders ≡ map at (range_with_len 0 (length grants)) = fill_by_all at holders (length grants) 0 whole (λ k h. refl) in
       let clients : map at all ≡ map (λ (g : Grant). g.client) grants = same-lists grants (λ j d l. each j d l) in
-      let moved : IsPermutation (map at (range_with_len 0 (length grants))) (map at all) = IsPermutation-map at (range_with_len 0 (length grants)) all names in
+      let moved : IsPermutation (map at (range_with_len 0 (length grants))) (map at all) =
+      IsPermutation-map at (range_with_len 0 (length grants)) all names in
       record {
         all = whole;
         by_name = λ j d l. each j d l;
@@ -79,7 +84,8 @@ module _ (grants : List Grant) (names : IsEachBelow (length grants) (map (λ (g 
             (subst (λ (x : List ℕ × List ℕ). IsPermutation x.0 x.1) (λ i. (sym in_order i, clients i)) moved);
       }
     where
-      same-lists : (gs : List Grant) → ((j : ℕ) (d : Grant) → j < length gs → get_or holders (get_or gs j d).name 0 ≡ (get_or gs j d).client)
+      same-lists : (gs : List Grant) → ((j : ℕ) (d : Grant) → j < length gs
+          → get_or holders (get_or gs j d).name 0 ≡ (get_or gs j d).client)
           → map (λ n. get_or holders n 0) (map (λ (g : Grant). g.name) gs) ≡ map (λ (g : Grant). g.client) gs
       same-lists [] each = refl
       same-lists (g ∷ gs) each = λ i. each 0 g (omega arith) i ∷ same-lists gs (λ j d l. each (suc j) d (omega arith)) i

@@ -11,7 +11,8 @@ use Rattle.cn_floor.specs.Ends.{HasRisen, counts_by_exit, passes_of}
 use Rattle.cn_floor.specs.Words.{NoneWent}
 
 -- a part of a list, place by place
-part : (xs : List ℕ) (f : ℕ → ℕ) (a n : ℕ) → a + n ≤ length xs → ((i : ℕ) → i < n → get_or xs (a + i) 0 ≡ f i) → take n (drop a xs) ≡ map f (range_with_len 0 n)
+part : (xs : List ℕ) (f : ℕ → ℕ) (a n : ℕ) → a + n ≤ length xs → ((i : ℕ) → i < n → get_or xs (a + i) 0 ≡ f i)
+    → take n (drop a xs) ≡ map f (range_with_len 0 n)
 part xs f a zero fits same = refl
 part xs f a (suc n) fits same =
     let last : get_or (drop a xs) n 0 ≡ f n = get_or-drop a xs n 0 ∙ same n (omega arith) in

@@ -10,7 +10,8 @@ use Rattle.cn_floor.proofs.AtClose.Closings.{ending-at}
 use Rattle.cn_floor.proofs.InStates.Placed.{Rule}
 use Rattle.cn_floor.proofs.InStates.Spreads.{picked-spread}
 
-module _ (c : Inside) (is : IsCounters c) {id : ℕ} {v : View} {spaced : List ℕ} (xs : List (Unit {0})) (end : Final (Seen (Rule c is) id v) spaced xs) where
+module _ (c : Inside) (is : IsCounters c) {id : ℕ} {v : View} {spaced : List ℕ} (xs : List (Unit {0}))
+    (end : Final (Seen (Rule c is) id v) spaced xs) where
   abbrev words : List ℕ
   words = end.1.0.0
 

@@ -47,12 +47,14 @@ module _ (lists : Lists) (token client wire : ℕ) (is : IsAlone lists token cli
       taken = rw (eq-eqb token token refl) refl
 
 -- one token in all, and one on a wire: it stands alone
-pub alone-is : (lists : Lists) (token client wire : ℕ) (rest : List (ℕ × ℕ)) → on lists wire ≡ (token, client) ∷ rest → wire < length lists → tokens_in lists ≡ 1
+pub alone-is : (lists : Lists) (token client wire : ℕ) (rest : List (ℕ × ℕ)) → on lists wire ≡ (token, client) ∷ rest → wire < length lists
+    → tokens_in lists ≡ 1
     → IsAlone lists token client wire
 alone-is lists token client wire rest begins inside one = record {
   inside = inside;
   only = λ u. elim (cases_eq u wire) [
-    | inl e ↦ ap (on lists) e ∙ begins ∙ ap (λ (es : List (ℕ × ℕ)). (token, client) ∷ es) none ∙ sym (on-own token client wire) ∙ ap (last_on token client wire) (sym e)
+    | inl e ↦ ap (on lists) e ∙ begins ∙ ap (λ (es : List (ℕ × ℕ)). (token, client) ∷ es) none ∙ sym (on-own token client wire)
+        ∙ ap (last_on token client wire) (sym e)
     | inr d ↦ nobody u d ∙ sym (off-own token client wire u d)
   ];
 }
@@ -68,12 +70,14 @@ alone-is lists token client wire rest begins inside one = record {
 
     nobody : (u : ℕ) → u ≢ wire → on lists u ≡ []
     nobody u other = elim (cases_lt u (length lists)) [
-      | inl l ↦ nil_from_length (on lists u) (omega (arith, one, here, sum-below-parts (length lists) wire u many inside l (λ e. other (sym e))))
+      | inl l ↦ nil_from_length (on lists u) (omega
+          (arith, one, here, sum-below-parts (length lists) wire u many inside l (λ e. other (sym e))))
       | inr l ↦ get_or_past lists u [] l
     ]
 
 -- the first token of a wire, where there is one token in all
-pub alone-first : (y : Yard) (wire token client at : ℕ) → Some token ≡ first_of (on y.lists wire) → 0 < length (on y.lists wire) → tokens_in y.lists ≡ 1
+pub alone-first : (y : Yard) (wire token client at : ℕ) → Some token ≡ first_of (on y.lists wire) → 0 < length (on y.lists wire)
+    → tokens_in y.lists ≡ 1
     → IsThere y.lists token client at → IsAlone y.lists token client wire
 alone-first y wire token client at first some one is =
     let begins : IsFirst wire y token = first-is wire token y first in
@@ -82,7 +86,8 @@ alone-first y wire token client at first some one is =
     subst (λ (k : ℕ). IsAlone y.lists token k wire) same.0 alone
 
 -- it passes a balancer
-module _ (start : Start) (formed : IsWellFormed start.network.table) (v : View) (of : v.start ≡ start) (wires : length v.tokens ≡ length start.network.table.ends)
+module _ (start : Start) (formed : IsWellFormed start.network.table) (v : View) (of : v.start ≡ start)
+    (wires : length v.tokens ≡ length start.network.table.ends)
     (token client wire b n : ℕ) (is : IsAlone v.tokens token client wire) (ends : end_of start.network.table wire ≡ Balancer b) where
   abbrev t : Table
   t = start.network.table
@@ -110,7 +115,8 @@ module _ (start : Start) (formed : IsWellFormed start.network.table) (v : View) 
   pub alone-on : IsAlone (after_step token client (Balancer b) n v).tokens token client to
   alone-on =
       let long = length-map-range_with_len (λ u. without token (on v.tokens u) ++ last_on token client to u) 0 (length v.tokens) in
-      let lists = lists-after-on v.tokens token (last_on token client to) (λ u past. off-own token client to u (λ e. omega (arith, e, past, lands))) in
+      let lists = lists-after-on v.tokens token (last_on token client to)
+      (λ u past. off-own token client to u (λ e. omega (arith, e, past, lands))) in
       record {
         inside = omega (arith, long, lands);
         only = λ u. lists u ∙ ap (λ (es : List (ℕ × ℕ)). es ++ last_on token client to u) (nobody-else v.tokens token client wire is u);
@@ -142,9 +148,11 @@ passed-more u v w p q = record {
 }
 
 -- and so on, from balancer to balancer
-pub passes-more : (start : Start) (token client : ℕ) (ns : List ℕ) (wire : ℕ) (v : View) (at : ℕ) (u : View) (b n : ℕ) → PassesOn start token client ns wire v at u
+pub passes-more : (start : Start) (token client : ℕ) (ns : List ℕ) (wire : ℕ) (v : View) (at : ℕ) (u : View) (b n : ℕ)
+    → PassesOn start token client ns wire v at u
     → end_of start.network.table at ≡ Balancer b → IsLetBy start u (after_step token client (Balancer b) n u) client (Balancer b) n
-    → PassesOn start token client (ns ++ n ∷ []) wire v (output_wire start.network.table b (n % 2)) (after_step token client (Balancer b) n u)
+    → PassesOn start token client (ns ++ n ∷ []) wire v (output_wire start.network.table b (n % 2))
+    (after_step token client (Balancer b) n u)
 unfolding PassesOn
 passes-more start token client [] wire v at u b n (here, stays) ends by = (
   b,
@@ -158,19 +166,23 @@ passes-more start token client (m ∷ ns) wire v at u b n (c, first, went, rest)
 -- ---- before and after
 
 -- lists on which the same token stands alone are the same
-pub alone-alike : (a b : Lists) (token client wire : ℕ) → IsAlone a token client wire → IsAlone b token client wire → length a ≡ length b → a ≡ b
+pub alone-alike : (a b : Lists) (token client wire : ℕ) → IsAlone a token client wire → IsAlone b token client wire → length a ≡ length b
+    → a ≡ b
 alone-alike a b token client wire p q long =
     made b (on b) a long (λ u. p.only u ∙ sym (q.only u)) ∙ sym (made b (on b) b refl (λ _. refl))
 
 -- a yard in which it moves
-pub alone-moved : (old new : Yard) (token client wire to : ℕ) → IsAlone old.lists token client wire → to < length old.lists → Moves old new token client to → IsAlone new.lists token client to
+pub alone-moved : (old new : Yard) (token client wire to : ℕ) → IsAlone old.lists token client wire → to < length old.lists
+    → Moves old new token client to → IsAlone new.lists token client to
 alone-moved old new token client wire to is lands moves = record {
   inside = omega (arith, moves.wires, lands);
   only = λ u. moves.lists u ∙ ap (λ (es : List (ℕ × ℕ)). es ++ last_on token client to u) (nobody-else old.lists token client wire is u);
 }
 
 -- where a lane has one token, it is the first on its wire
-pub alone-in : (l : Inside) (lane : LaneValue) (wire token client at : ℕ) → lane_of l ≡ lane → Some token ≡ first_of (on l.yard.lists wire) → 0 < length (on lane.yard.lists wire)
+pub alone-in : (l : Inside) (lane : LaneValue) (wire token client at : ℕ) → lane_of l ≡ lane → Some token ≡ first_of (on l.yard.lists wire)
+    → 0 < length (on lane.yard.lists wire)
     → tokens_in lane.yard.lists ≡ 1 → IsThere l.yard.lists token client at → IsAlone l.yard.lists token client wire
 alone-in l lane wire token client at is first some one there =
-    alone-first l.yard wire token client at first (subst (λ (k : LaneValue). 0 < length (on k.yard.lists wire)) (sym is) some) (subst (λ (k : LaneValue). tokens_in k.yard.lists ≡ 1) (sym is) one) there
+    alone-first l.yard wire token client at first (subst (λ (k : LaneValue). 0 < length (on k.yard.lists wire)) (sym is) some)
+    (subst (λ (k : LaneValue). tokens_in k.yard.lists ≡ 1) (sym is) one) there

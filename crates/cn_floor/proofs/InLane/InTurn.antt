@@ -15,7 +15,8 @@ unfolding SweptBy
 swept-none start v = ([], refl)
 
 -- one wire first, on which some stand, and then others
-pub swept-first : (start : Start) (wire : ℕ) (end : End) (n : ℕ) (v w x : View) → end_of start.network.table wire ≡ end → w ≡ after_sweep wire end n v
+pub swept-first : (start : Start) (wire : ℕ) (end : End) (n : ℕ) (v w x : View) → end_of start.network.table wire ≡ end
+    → w ≡ after_sweep wire end n v
     → 0 < length (on v.tokens wire) → AreLetBy start v w wire end n → IsSwept start w x → IsSwept start v x
 unfolding SweptBy
 swept-first start wire end n v w x ends went some by (wires, later) =
@@ -30,7 +31,8 @@ swept-first start wire end n v w x ends went some by (wires, later) =
     )
 
 -- some wires, and then others
-swept-on : (start : Start) (wires more : List ℕ) (v w x : View) → SweptBy start wires v w → SweptBy start more w x → SweptBy start (wires ++ more) v x
+swept-on : (start : Start) (wires more : List ℕ) (v w x : View) → SweptBy start wires v w → SweptBy start more w x
+    → SweptBy start (wires ++ more) v x
 unfolding SweptBy
 swept-on start [] more v w x same later = subst (λ (y : View). SweptBy start more y x) same later
 swept-on start (wire ∷ wires) more v w x (n, some, by, rest) later = (n, some, by, swept-on start wires more _ w x rest later)
@@ -45,7 +47,8 @@ swept-steps start [] v w same = omega (arith, ap (λ (x : View). x.steps) same)
 swept-steps start (wire ∷ wires) v w (n, some, by, rest) = omega (arith, swept-steps start wires _ w rest)
 
 -- who came in together and were swept out walked together
-pub walk-together : (start : Start) (clients : List ℕ) (entry : ℕ) (v w x : View) → ComeTogether start clients entry v w → IsSwept start w x → WalkTogether start clients entry v x
+pub walk-together : (start : Start) (clients : List ℕ) (entry : ℕ) (v w x : View) → ComeTogether start clients entry v w → IsSwept start w x
+    → WalkTogether start clients entry v x
 walk-together start clients entry v w x (is, step) (wires, swept) =
     let out : SweptBy start wires (after_enter_all clients entry v) x = subst (λ (y : View). SweptBy start wires y x) is swept in
     record {

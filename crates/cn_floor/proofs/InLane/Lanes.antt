@@ -44,13 +44,15 @@ module _ (old new : Inside) (token client : ℕ) (kept : IsLane old) (no_slot : 
   }
 
   -- a token passed a balancer
-  pub lane-on : (b n to : ℕ) → to ≡ output_wire v.start.network.table b (n % 2) → new.seat.me.0 ≡ after_step token client (Balancer b) n v → Moves old.yard new.yard token client to
+  pub lane-on : (b n to : ℕ) → to ≡ output_wire v.start.network.table b (n % 2) → new.seat.me.0 ≡ after_step token client (Balancer b) n v
+      → Moves old.yard new.yard token client to
       → new.grants ≡ old.grants → new.quota ≡ old.quota → new.room ≡ old.room → IsLane new
   lane-on b n to at view yard grants quota room = record {
     no_slot = no_slot;
     idle = ap (λ (w : View). w.loads) view ∙ kept.idle;
     tokens =
-        made v.tokens (λ u. without token (get_or v.tokens u []) ++ last_on token client (output_wire v.start.network.table b (n % 2)) u) new.yard.lists (yard.wires ∙ sym long)
+        made v.tokens (λ u. without token (get_or v.tokens u []) ++ last_on token client (output_wire v.start.network.table b (n % 2)) u)
+        new.yard.lists (yard.wires ∙ sym long)
         (λ u. yard.lists u ∙ (λ i. without token (sym (same-on u) i) ++ last_on token client (at i) u))
         ∙ ap (λ (w : View). w.tokens) (sym view);
     wires = yard.wires ∙ kept.wires ∙ ap (λ (w : View). length w.start.network.table.ends) (sym view);
@@ -63,22 +65,32 @@ module _ (old new : Inside) (token client : ℕ) (kept : IsLane old) (no_slot : 
   }
 
   -- a token left
-  pub lane-out : (i n name : ℕ) → name ≡ name_of v.start.network.table.width i n - base v.start → new.seat.me.0 ≡ after_step token client (Exit i) n v → Releases old.yard new.yard token
-      → new.grants.items ≡ old.grants.items ++ record { client = client; exit = i; visit = n; name = name } ∷ [] → vec_capacity new.grants ≡ vec_capacity old.grants
+  pub lane-out : (i n name : ℕ) → name ≡ name_of v.start.network.table.width i n - base v.start
+      → new.seat.me.0 ≡ after_step token client (Exit i) n v → Releases old.yard new.yard token
+      → new.grants.items ≡ old.grants.items ++ record { client = client; exit = i; visit = n; name = name } ∷ []
+      → vec_capacity new.grants ≡ vec_capacity old.grants
       → new.quota ≡ old.quota → new.room ≡ old.room → IsLane new
   lane-out i n name named view yard grants capacity quota room = record {
     no_slot = no_slot;
     idle = ap (λ (w : View). w.loads) view ∙ kept.idle;
     tokens =
         made v.tokens (λ u. without token (get_or v.tokens u []) ++ []) new.yard.lists (yard.wires ∙ sym long)
-        (λ u. yard.lists u ∙ ap (λ (es : List (ℕ × ℕ)). without token es) (sym (same-on u)) ∙ sym (append-nil (without token (get_or v.tokens u []))))
+        (λ u. yard.lists u ∙ ap (λ (es : List (ℕ × ℕ)). without token es) (sym (same-on u))
+        ∙ sym (append-nil (without token (get_or v.tokens u []))))
         ∙ ap (λ (w : View). w.tokens) (sym view);
     wires = yard.wires ∙ kept.wires ∙ ap (λ (w : View). length w.start.network.table.ends) (sym view);
-    grants = grants ∙ (λ x. kept.grants x ++ record { client = client; exit = i; visit = n; name = named x } ∷ []) ∙ ap (λ (w : View). w.grants) (sym view);
+    grants = grants ∙ (λ x. kept.grants x ++ record { client = client; exit = i; visit = n; name = named x } ∷ [])
+        ∙ ap (λ (w : View). w.grants) (sym view);
     quota = quota ∙ kept.quota ∙ ap (λ (w : View). w.quota) (sym view);
     small = subst FitsLanes (ap (λ (w : View). w.start) (sym view)) kept.small;
     few = omega (arith, kept.few, yard.tokens);
-    room = omega (arith, kept.room, yard.tokens, ap (λ gs. length gs) grants, length_push old.grants.items (record { client = client; exit = i; visit = n; name = name }));
+    room = omega (
+      arith,
+      kept.room,
+      yard.tokens,
+      ap (λ gs. length gs) grants,
+      length_push old.grants.items (record { client = client; exit = i; visit = n; name = name }),
+    );
     spare = omega (arith, kept.spare, yard.spare);
   }
 
@@ -88,11 +100,13 @@ module _ (old new : LaneValue) (token client wire n : ℕ) (answer : Moved) wher
   abbrev start : Start
   start = old.home.start
 
-  pub steps-on : (end : End) → end_of start.network.table wire ≡ end → standing old.yard.lists token ≡ Some (wire, client) → new.home ≡ old.home
+  pub steps-on : (end : End) → end_of start.network.table wire ≡ end → standing old.yard.lists token ≡ Some (wire, client)
+      → new.home ≡ old.home
       → new.view ≡ after_step token client end n old.view → PutsOn start end n old.yard new.yard token client → new.room ≡ old.room
       → answer ≡ answer_at start end n → IsLetBy start old.view new.view client end n → StepsOn old new token client wire n answer
   steps-on end at stood home view yard room answered let_by =
-      let by : IsLetBy start old.view new.view client (end_of start.network.table wire) n = subst (λ (e : End). IsLetBy start old.view new.view client e n) (sym at) let_by in
+      let by : IsLetBy start old.view new.view client (end_of start.network.table wire) n =
+      subst (λ (e : End). IsLetBy start old.view new.view client e n) (sym at) let_by in
       let says : answer ≡ answer_at start (end_of start.network.table wire) n = answered ∙ ap (λ (e : End). answer_at start e n) (sym at) in
       record {
         stood = stood;
@@ -101,7 +115,8 @@ module _ (old new : LaneValue) (token client wire n : ℕ) (answer : Moved) wher
         yard = subst (λ (e : End). PutsOn start e n old.yard new.yard token client) (sym at) yard;
         room = room;
         answered = says;
-        step = subst (λ (a : Moved). IsAtomicStep start old.view new.view (λ l m. IsMoveOf start.network.table (base start) l m client a)) (sym says) by.step;
+        step = subst (λ (a : Moved). IsAtomicStep start old.view new.view (λ l m. IsMoveOf start.network.table (base start) l m client a))
+            (sym says) by.step;
         few = by.few;
         sole = by.sole;
       }

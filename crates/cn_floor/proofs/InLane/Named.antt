@@ -15,7 +15,8 @@ use Rattle.cn_floor.proofs.InLane.Alone.{nobody-else, off-own}
 use Rattle.cn_floor.proofs.InLane.Yards.{nobody-there}
 
 -- if nobody stands on any wire, who comes in stands alone
-pub alone-entered : (token client entry : ℕ) (v : View) → entry < length v.tokens → ((u : ℕ) → on v.tokens u ≡ []) → IsAlone (after_enter token client entry v).tokens token client entry
+pub alone-entered : (token client entry : ℕ) (v : View) → entry < length v.tokens → ((u : ℕ) → on v.tokens u ≡ [])
+    → IsAlone (after_enter token client entry v).tokens token client entry
 alone-entered token client entry v inside out =
     let make : ℕ → List (ℕ × ℕ) = λ u. on v.tokens u ++ last_on token client entry u in
     record {
@@ -27,11 +28,13 @@ alone-entered token client entry v inside out =
     }
 
 -- who stands alone and leaves, leaves nobody
-pub gone-alone : (token client wire exit n : ℕ) (v : View) → IsAlone v.tokens token client wire → (after_step token client (Exit exit) n v).tokens ≡ replicate (length v.tokens) []
+pub gone-alone : (token client wire exit n : ℕ) (v : View) → IsAlone v.tokens token client wire
+    → (after_step token client (Exit exit) n v).tokens ≡ replicate (length v.tokens) []
 gone-alone token client wire exit n v is =
     let lists = (after_step token client (Exit exit) n v).tokens in
     let each : (u : ℕ) → on lists u ≡ [] =
-    λ u. lists-after-on v.tokens token (λ _. []) (λ _ _. refl) u ∙ ap (λ (es : List (ℕ × ℕ)). es ++ []) (nobody-else v.tokens token client wire is u) in
+    λ u. lists-after-on v.tokens token (λ _. []) (λ _ _. refl) u
+    ∙ ap (λ (es : List (ℕ × ℕ)). es ++ []) (nobody-else v.tokens token client wire is u) in
     all-empty lists (nobody-there lists (λ u. ap length (each u)))
     ∙ ap (λ (k : ℕ). replicate k []) (length-map-range_with_len (λ u. without token (on v.tokens u) ++ []) 0 (length v.tokens))
 
@@ -43,10 +46,16 @@ state-after start v w event step = (step.new, record { id = step.id; here = step
 pub names-low : (start : Start) (v : View) → IsStart start → StoodInState start v → All (λ g. g.name < start.quota) v.grants
 names-low start v began (s, in_state) k d less =
     let f = in_state.kept.fresh in_state.id v in_state.here in
-    omega (arith, f.names k d less, load-bound-few start.network.table s.words v.loads f.low, few-came start s record { began = began; rule = in_state.kept })
+    omega (
+      arith,
+      f.names k d less,
+      load-bound-few start.network.table s.words v.loads f.low,
+      few-came start s record { began = began; rule = in_state.kept },
+    )
 
 -- who passes balancers changes nothing else of a lane
-passed-only : (start : Start) (token client : ℕ) (numbers : List ℕ) (wire : ℕ) (v : View) (to : ℕ) (w : View) → PassesOn start token client numbers wire v to w → OnlyPassed v w
+passed-only : (start : Start) (token client : ℕ) (numbers : List ℕ) (wire : ℕ) (v : View) (to : ℕ) (w : View)
+    → PassesOn start token client numbers wire v to w → OnlyPassed v w
 unfolding PassesOn
 passed-only start token client [] wire v to w (_, same) =
     record {
@@ -67,7 +76,9 @@ passed-only start token client (n ∷ rest) wire v to w (b, ends, by, on) =
       quota = only.quota;
       entries = only.entries;
       came = only.came;
-      wires = only.wires ∙ length-map-range_with_len (λ u. without token (get_or v.tokens u []) ++ last_on token client (output_wire v.start.network.table b (n % 2)) u) 0 (length v.tokens);
+      wires = only.wires ∙ length-map-range_with_len
+          (λ u. without token (get_or v.tokens u []) ++ last_on token client (output_wire v.start.network.table b (n % 2)) u) 0
+          (length v.tokens);
       grants = only.grants;
       seen = only.seen;
       loads = only.loads;
@@ -79,11 +90,13 @@ pub record Grew (v w : View) (client entry exit visit : ℕ) : Type 0 where
   pub quota : w.quota ≡ v.quota - 1
   pub entries : w.entries ≡ v.entries ++ entry ∷ []
   pub came : w.came ≡ v.came ++ record { id = client; entry = entry } ∷ []
-  pub grants : w.grants ≡ v.grants ++ record { client = client; exit = exit; visit = visit; name = name_of v.start.network.table.width exit visit - base v.start } ∷ []
+  pub grants : w.grants ≡ v.grants ++ record
+      { client = client; exit = exit; visit = visit; name = name_of v.start.network.table.width exit visit - base v.start } ∷ []
   pub seen : w.seen ≡ v.seen
   pub loads : w.loads ≡ v.loads
 
-pub grew : (start : Start) (client entry exit visit : ℕ) (v w : View) → WalksThrough start client entry exit visit v w → Grew v w client entry exit visit
+pub grew : (start : Start) (client entry exit visit : ℕ) (v w : View) → WalksThrough start client entry exit visit v w
+    → Grew v w client entry exit visit
 grew start client entry exit visit v w is =
     let came = is.came in
     let only : OnlyPassed is.inside is.before = passed-only start is.token client is.numbers entry is.inside is.wire is.before is.passes in
@@ -95,7 +108,12 @@ grew start client entry exit visit v w is =
       entries = ap (λ (x : View). x.entries) is.after ∙ only.entries ∙ ap (λ (x : View). x.entries) came;
       came = ap (λ (x : View). x.came) is.after ∙ only.came ∙ ap (λ (x : View). x.came) came;
       grants = ap (λ (x : View). x.grants) is.after
-          ∙ (λ i. had i ++ record { client = client; exit = exit; visit = visit; name = name_of (begun i).network.table.width exit visit - base (begun i) } ∷ []);
+          ∙ (λ i. had i ++ record {
+            client = client;
+            exit = exit;
+            visit = visit;
+            name = name_of (begun i).network.table.width exit visit - base (begun i);
+          } ∷ []);
       seen = ap (λ (x : View). x.seen) is.after ∙ only.seen ∙ ap (λ (x : View). x.seen) came;
       loads = ap (λ (x : View). x.loads) is.after ∙ only.loads ∙ ap (λ (x : View). x.loads) came;
     }
@@ -109,7 +127,8 @@ name-small start i n began small low few =
     omega (arith, mul-le-mul_left start.network.table.width most, narrow, low)
 
 -- its grant, and that the name is a number of 64 bits
-module _ (start : Start) (client entry exit visit : ℕ) (v w : View) (began : IsStart start) (of : v.start ≡ start) (is : WalksThrough start client entry exit visit v w) (some-quota : 0 < v.quota) where
+module _ (start : Start) (client entry exit visit : ℕ) (v w : View) (began : IsStart start) (of : v.start ≡ start)
+    (is : WalksThrough start client entry exit visit v w) (some-quota : 0 < v.quota) where
   abbrev name : ℕ
   name = name_of start.network.table.width exit visit - base start
 
@@ -118,7 +137,12 @@ module _ (start : Start) (client entry exit visit : ℕ) (v w : View) (began : I
 
   more : w.grants ≡ v.grants ++ grant ∷ []
   more = (grew start client entry exit visit v w is).grants
-      ∙ (λ i. v.grants ++ record { client = client; exit = exit; visit = visit; name = name_of (of i).network.table.width exit visit - base (of i) } ∷ [])
+      ∙ (λ i. v.grants ++ record {
+        client = client;
+        exit = exit;
+        visit = visit;
+        name = name_of (of i).network.table.width exit visit - base (of i);
+      } ∷ [])
 
   stood : StoodInState start w
   stood = state-after _ _ _ _ is.leaves.step
@@ -126,13 +150,15 @@ module _ (start : Start) (client entry exit visit : ℕ) (v w : View) (began : I
   pub name-low : name_of start.network.table.width exit visit - base start < start.quota
   name-low =
       let some : length v.grants < length w.grants = omega (arith, ap (λ (gs : List Grant). length gs) more, length_push v.grants grant) in
-      let last : get_or w.grants (length v.grants) grant ≡ grant = ap (λ (gs : List Grant). get_or gs (length v.grants) grant) more ∙ get_or-append_seam v.grants grant [] grant in
+      let last : get_or w.grants (length v.grants) grant ≡ grant =
+      ap (λ (gs : List Grant). get_or gs (length v.grants) grant) more ∙ get_or-append_seam v.grants grant [] grant in
       subst (λ (g : Grant). g.name < start.quota) last (names-low start w began stood (length v.grants) grant some)
 
   pub name-fits : name_of start.network.table.width exit visit < 2 ^ 64
   name-fits = omega (arith, name-low, began.quota, began.few)
 
-  pub granted : IsGranted start client entry (record { client = client; exit = exit; visit = visit; name = name_of start.network.table.width exit visit - base start }) v w
+  pub granted : IsGranted start client entry
+      (record { client = client; exit = exit; visit = visit; name = name_of start.network.table.width exit visit - base start }) v w
   granted =
       let all = grew start client entry exit visit v w is in
       record {

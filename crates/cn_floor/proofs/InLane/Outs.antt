@@ -7,7 +7,8 @@ use Rattle.cn_yard.proofs.CallerLemmas.{IsFirst, first-there, once-gone, rest-on
 use Rattle.cn_floor.specs.Sweeps.{grants_out}
 
 -- a release after others
-frees-next : (done : List (ℕ × ℕ)) (old between new : Yard) (e : ℕ × ℕ) → Frees done old between → Releases between new e.0 → Frees (done ++ e ∷ []) old new
+frees-next : (done : List (ℕ × ℕ)) (old between new : Yard) (e : ℕ × ℕ) → Frees done old between → Releases between new e.0
+    → Frees (done ++ e ∷ []) old new
 unfolding Frees
 frees-next [] old between new e same one = (new, subst (λ (y : Yard). Releases y new e.0) same one, refl)
 frees-next (d ∷ done) old between new e (first, taken, rest) one = (first, taken, frees-next done first between new e rest one)
@@ -20,7 +21,8 @@ unfolding grants_out
 grants-next width less i n m [] token client is = let same : n ≡ m = omega (arith, is) in rw same refl
 grants-next width less i n m (d ∷ done) token client is =
     let later : m ≡ n + 1 + length done = omega (arith, is) in
-    ap (λ (gs : List Grant). record { client = d.1; exit = i; visit = n; name = name_of width i n - less } ∷ gs) (grants-next width less i (n + 1) m done token client later)
+    ap (λ (gs : List Grant). record { client = d.1; exit = i; visit = n; name = name_of width i n - less } ∷ gs)
+    (grants-next width less i (n + 1) m done token client later)
 
 pub grants-many : (width less i n : ℕ) (done : List (ℕ × ℕ)) → length (grants_out width less i n done) ≡ length done
 unfolding grants_out
@@ -39,7 +41,8 @@ pub record IsLeaving (width less i first wire : ℕ) (old now : Yard) (had has :
   pub once : (k : ℕ) → times_in now.lists k ≤ 1
   pub wires : length now.lists ≡ length old.lists
 
-pub leaving : (width less i first wire : ℕ) (old : Yard) (had : List Grant) → ((k : ℕ) → times_in old.lists k ≤ 1) → IsLeaving width less i first wire old old had had first
+pub leaving : (width less i first wire : ℕ) (old : Yard) (had : List Grant) → ((k : ℕ) → times_in old.lists k ≤ 1)
+    → IsLeaving width less i first wire old old had had first
 unfolding Frees grants_out
 leaving width less i first wire old had once = record {
   done = [];
@@ -53,7 +56,8 @@ leaving width less i first wire old had once = record {
   wires = refl;
 }
 
-module _ (width less i first wire : ℕ) (old y : Yard) (had has : List Grant) (visit token : ℕ) (is : IsLeaving width less i first wire old y had has visit)
+module _ (width less i first wire : ℕ) (old y : Yard) (had has : List Grant) (visit token : ℕ)
+    (is : IsLeaving width less i first wire old y had has visit)
     (inside : wire < length old.lists) (next : IsFirst wire y token) where
   within : wire < length y.lists
   within = omega (arith, inside, is.wires)
@@ -64,14 +68,16 @@ module _ (width less i first wire : ℕ) (old y : Yard) (had has : List Grant) (
 
   -- for its client
   pub client-is : (client wire' : ℕ) → IsThere y.lists token client wire' → client ≡ next.client
-  client-is client wire' there = (there-alike y.lists token client next.client wire' wire there (first-there y.lists token next.client wire next.after is.once within next.begins)).0
+  client-is client wire' there = (there-alike y.lists token client next.client wire' wire there
+      (first-there y.lists token next.client wire next.after is.once within next.begins)).0
 
   -- how many have left, and one more is there to leave
   pub some-left : length is.done + 1 ≤ length (on old.lists wire)
   some-left = omega (arith, ap length is.whole, length-append is.done is.rest, ap length (sym is.left ∙ next.begins))
 
   pub has-many : length has ≡ length had + length is.done
-  has-many = ap length is.granted ∙ length-append had (grants_out width less i first is.done) ∙ ap (λ (k : ℕ). length had + k) (grants-many width less i first is.done)
+  has-many = ap length is.granted ∙ length-append had (grants_out width less i first is.done)
+      ∙ ap (λ (k : ℕ). length had + k) (grants-many width less i first is.done)
 
   left-now : (z : Yard) → Releases y z token → on z.lists wire ≡ next.after
   left-now z released = released.lists wire ∙ rest-on y.lists token next.client wire next.after is.once within next.begins
@@ -83,12 +89,15 @@ module _ (width less i first wire : ℕ) (old y : Yard) (had has : List Grant) (
   leaves-on z now released grants = record {
     done = is.done ++ (token, next.client) ∷ [];
     rest = next.after;
-    whole = is.whole ∙ ap (λ (es : List (ℕ × ℕ)). is.done ++ es) (sym is.left ∙ next.begins) ∙ sym (append_assoc is.done ((token, next.client) ∷ []) next.after);
+    whole = is.whole ∙ ap (λ (es : List (ℕ × ℕ)). is.done ++ es) (sym is.left ∙ next.begins)
+        ∙ sym (append_assoc is.done ((token, next.client) ∷ []) next.after);
     left = left-now z released;
     freed = frees-next is.done old y z (token, next.client) is.freed released;
     granted = grants
-        ∙ ap (λ (gs : List Grant). gs ++ record { client = next.client; exit = i; visit = visit; name = name_of width i visit - less } ∷ []) is.granted
-        ∙ append_assoc had (grants_out width less i first is.done) (record { client = next.client; exit = i; visit = visit; name = name_of width i visit - less } ∷ [])
+        ∙ ap (λ (gs : List Grant). gs ++ record { client = next.client; exit = i; visit = visit; name = name_of width i visit - less } ∷ [])
+        is.granted
+        ∙ append_assoc had (grants_out width less i first is.done)
+        (record { client = next.client; exit = i; visit = visit; name = name_of width i visit - less } ∷ [])
         ∙ ap (λ (gs : List Grant). had ++ gs) (sym (grants-next width less i first visit is.done token next.client is.visit_is));
     visit_is = omega (arith, is.visit_is, length_push is.done (token, next.client));
     once = λ k. once-gone y.lists token next.client wire next.after is.once within next.begins z.lists released.wires k released.lists;
@@ -99,8 +108,12 @@ module _ (width less i first wire : ℕ) (old y : Yard) (had has : List Grant) (
   one-less z released = omega (arith, ap length (left-now z released), ap length next.begins)
 
 -- in the end all have left
-pub left-all : (width less i first wire : ℕ) (old now : Yard) (had has : List Grant) (visit : ℕ) → IsLeaving width less i first wire old now had has visit → on now.lists wire ≡ []
+pub left-all : (width less i first wire : ℕ) (old now : Yard) (had has : List Grant) (visit : ℕ)
+    → IsLeaving width less i first wire old now had has visit → on now.lists wire ≡ []
     → Frees (on old.lists wire) old now × (has ≡ had ++ grants_out width less i first (on old.lists wire))
 left-all width less i first wire old now had has visit is none =
-    let whole : on old.lists wire ≡ is.done = is.whole ∙ ap (λ (es : List (ℕ × ℕ)). is.done ++ es) (sym is.left ∙ none) ∙ append-nil is.done in
-    (subst (λ (es : List (ℕ × ℕ)). Frees es old now) (sym whole) is.freed, is.granted ∙ ap (λ (es : List (ℕ × ℕ)). had ++ grants_out width less i first es) (sym whole))
+    let whole : on old.lists wire ≡ is.done =
+    is.whole ∙ ap (λ (es : List (ℕ × ℕ)). is.done ++ es) (sym is.left ∙ none) ∙ append-nil is.done in (
+      subst (λ (es : List (ℕ × ℕ)). Frees es old now) (sym whole) is.freed,
+      is.granted ∙ ap (λ (es : List (ℕ × ℕ)). had ++ grants_out width less i first es) (sym whole),
+    )

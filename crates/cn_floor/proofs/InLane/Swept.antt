@@ -61,16 +61,20 @@ grants-left i n (e ∷ rest) v =
 -- ---- tokens
 
 -- one goes to a wire, or out
-moved-lists : (y z : Yard) (v : View) (token client b n to : ℕ) → y.lists ≡ v.tokens → to ≡ output_wire v.start.network.table b (n % 2) → Moves y z token client to
+moved-lists : (y z : Yard) (v : View) (token client b n to : ℕ) → y.lists ≡ v.tokens → to ≡ output_wire v.start.network.table b (n % 2)
+    → Moves y z token client to
     → z.lists ≡ (after_step token client (Balancer b) n v).tokens
 moved-lists y z v token client b n to same at moves =
-    made v.tokens (λ u. without token (get_or v.tokens u []) ++ last_on token client (output_wire v.start.network.table b (n % 2)) u) z.lists (moves.wires ∙ ap length same)
+    made v.tokens (λ u. without token (get_or v.tokens u []) ++ last_on token client (output_wire v.start.network.table b (n % 2)) u)
+    z.lists (moves.wires ∙ ap length same)
     (λ u. moves.lists u ∙ (λ i. without token (get_or (same i) u []) ++ last_on token client (at i) u))
 
-freed-lists : (y z : Yard) (v : View) (token client i n : ℕ) → y.lists ≡ v.tokens → Releases y z token → z.lists ≡ (after_step token client (Exit i) n v).tokens
+freed-lists : (y z : Yard) (v : View) (token client i n : ℕ) → y.lists ≡ v.tokens → Releases y z token
+    → z.lists ≡ (after_step token client (Exit i) n v).tokens
 freed-lists y z v token client i n same released =
     made v.tokens (λ u. without token (get_or v.tokens u []) ++ []) z.lists (released.wires ∙ ap length same)
-    (λ u. released.lists u ∙ ap (λ (ls : List (List (ℕ × ℕ))). without token (get_or ls u [])) same ∙ sym (append-nil (without token (get_or v.tokens u []))))
+    (λ u. released.lists u ∙ ap (λ (ls : List (List (ℕ × ℕ))). without token (get_or ls u [])) same
+    ∙ sym (append-nil (without token (get_or v.tokens u []))))
 
 pub dealt-tokens : (outs : ℕ → ℕ) (b n p : ℕ) (tokens : List (ℕ × ℕ)) (y z : Yard) (v : View) → y.lists ≡ v.tokens
     → ((q : ℕ) → outs (q % 2) ≡ output_wire v.start.network.table b (q % 2)) → p % 2 ≡ n % 2 → Deals outs p tokens y z
@@ -79,12 +83,14 @@ unfolding after_steps Deals
 dealt-tokens outs b n p [] y z v same at turn deals = ap (λ (x : Yard). x.lists) deals ∙ same
 dealt-tokens outs b n p (e ∷ rest) y z v same at turn (between, moves, later) =
     let to : outs (p % 2) ≡ output_wire v.start.network.table b (n % 2) = at p ∙ ap (output_wire v.start.network.table b) turn in
-    dealt-tokens outs b (n + 1) (p + 1) rest between z (after_step e.0 e.1 (Balancer b) n v) (moved-lists y between v e.0 e.1 b n (outs (p % 2)) same to moves) at (next p n turn) later
+    dealt-tokens outs b (n + 1) (p + 1) rest between z (after_step e.0 e.1 (Balancer b) n v)
+    (moved-lists y between v e.0 e.1 b n (outs (p % 2)) same to moves) at (next p n turn) later
   where
     next : (p n : ℕ) → p % 2 ≡ n % 2 → (p + 1) % 2 ≡ (n + 1) % 2
     next p n e = omega (arith, e)
 
-pub freed-tokens : (i n : ℕ) (tokens : List (ℕ × ℕ)) (y z : Yard) (v : View) → y.lists ≡ v.tokens → Frees tokens y z → z.lists ≡ (after_steps (Exit i) n tokens v).tokens
+pub freed-tokens : (i n : ℕ) (tokens : List (ℕ × ℕ)) (y z : Yard) (v : View) → y.lists ≡ v.tokens → Frees tokens y z
+    → z.lists ≡ (after_steps (Exit i) n tokens v).tokens
 unfolding after_steps Frees
 freed-tokens i n [] y z v same frees = ap (λ (x : Yard). x.lists) frees ∙ same
 freed-tokens i n (e ∷ rest) y z v same (between, released, later) =
@@ -112,17 +118,21 @@ freed-all (e ∷ rest) y z (between, released, later) =
     }
 
 -- all tokens of a wire are freed: it is empty, and the others are as they were
-freed-others : (wire : ℕ) (tokens : List (ℕ × ℕ)) (y z : Yard) → ((k : ℕ) → times_in y.lists k ≤ 1) → wire < length y.lists → on y.lists wire ≡ tokens → Frees tokens y z
+freed-others : (wire : ℕ) (tokens : List (ℕ × ℕ)) (y z : Yard) → ((k : ℕ) → times_in y.lists k ≤ 1) → wire < length y.lists
+    → on y.lists wire ≡ tokens → Frees tokens y z
     → (on z.lists wire ≡ []) × ((u : ℕ) → u ≢ wire → on z.lists u ≡ on y.lists u)
 unfolding Frees
-freed-others wire [] y z once inside is same = (ap (λ (x : Yard). on x.lists wire) same ∙ is, λ u other. ap (λ (x : Yard). on x.lists u) same)
+freed-others wire [] y z once inside is same =
+    (ap (λ (x : Yard). on x.lists wire) same ∙ is, λ u other. ap (λ (x : Yard). on x.lists u) same)
 freed-others wire (e ∷ rest) y z once inside is (between, one, more) =
     let left = one.lists wire ∙ rest-on y.lists e.0 e.1 wire rest once inside is in
-    let still : (k : ℕ) → times_in between.lists k ≤ 1 = λ k. once-gone y.lists e.0 e.1 wire rest once inside is between.lists one.wires k one.lists in
+    let still : (k : ℕ) → times_in between.lists k ≤ 1 =
+    λ k. once-gone y.lists e.0 e.1 wire rest once inside is between.lists one.wires k one.lists in
     let (empty, others) = freed-others wire rest between z still (omega (arith, inside, one.wires)) left more in
     (empty, λ u other. others u other ∙ one.lists u ∙ others-on y.lists e.0 e.1 wire rest once inside is u other)
 
-pub cleared : (wire : ℕ) (y z : Yard) → ((k : ℕ) → times_in y.lists k ≤ 1) → wire < length y.lists → Frees (on y.lists wire) y z → IsCleared wire y z
+pub cleared : (wire : ℕ) (y z : Yard) → ((k : ℕ) → times_in y.lists k ≤ 1) → wire < length y.lists → Frees (on y.lists wire) y z
+    → IsCleared wire y z
 cleared wire y z once inside frees =
     let all = freed-all (on y.lists wire) y z frees in
     let (empty, others) = freed-others wire (on y.lists wire) y z once inside refl frees in
@@ -157,7 +167,8 @@ module _ (old new : Inside) (wire n : ℕ) (kept : IsLane old) (no_slot : new.se
   there = ap (λ (ls : List (List (ℕ × ℕ))). on ls wire) kept.tokens
 
   -- its tokens were dealt
-  pub lane-dealt : (outs : ℕ → ℕ) (b p out0 out1 : ℕ) → new.seat.me.0 ≡ after_sweep wire (Balancer b) n v → Deals outs p (on old.yard.lists wire) old.yard new.yard
+  pub lane-dealt : (outs : ℕ → ℕ) (b p out0 out1 : ℕ) → new.seat.me.0 ≡ after_sweep wire (Balancer b) n v
+      → Deals outs p (on old.yard.lists wire) old.yard new.yard
       → IsDealt wire p out0 out1 old.yard new.yard → ((q : ℕ) → outs (q % 2) ≡ output_wire v.start.network.table b (q % 2)) → p % 2 ≡ n % 2
       → new.grants ≡ old.grants → new.quota ≡ old.quota → new.room ≡ old.room → IsLane new
   lane-dealt outs b p out0 out1 view deals dealt at turn grants quota room =
@@ -165,9 +176,11 @@ module _ (old new : Inside) (wire n : ℕ) (kept : IsLane old) (no_slot : new.se
       record {
         no_slot = no_slot;
         idle = ap (λ (w : View). w.loads) view ∙ like.loads ∙ kept.idle;
-        tokens = dealt-tokens outs b n p tokens old.yard new.yard v kept.tokens at turn (subst (λ (es : List (ℕ × ℕ)). Deals outs p es old.yard new.yard) there deals)
+        tokens = dealt-tokens outs b n p tokens old.yard new.yard v kept.tokens at turn
+            (subst (λ (es : List (ℕ × ℕ)). Deals outs p es old.yard new.yard) there deals)
             ∙ ap (λ (w : View). w.tokens) (sym view);
-        wires = dealt.wires ∙ kept.wires ∙ ap (λ (s : Start). length s.network.table.ends) (sym like.start) ∙ ap (λ (w : View). length w.start.network.table.ends) (sym view);
+        wires = dealt.wires ∙ kept.wires ∙ ap (λ (s : Start). length s.network.table.ends) (sym like.start)
+            ∙ ap (λ (w : View). length w.start.network.table.ends) (sym view);
         grants = ap (λ g. g.items) grants ∙ kept.grants ∙ sym (grants-kept b n tokens v) ∙ ap (λ (w : View). w.grants) (sym view);
         quota = quota ∙ kept.quota ∙ sym like.quota ∙ ap (λ (w : View). w.quota) (sym view);
         small = subst FitsLanes (sym like.start ∙ ap (λ (w : View). w.start) (sym view)) kept.small;
@@ -177,8 +190,10 @@ module _ (old new : Inside) (wire n : ℕ) (kept : IsLane old) (no_slot : new.se
       }
 
   -- its tokens left
-  pub lane-left : (i width less : ℕ) → width ≡ v.start.network.table.width → less ≡ base v.start → new.seat.me.0 ≡ after_sweep wire (Exit i) n v → Frees (on old.yard.lists wire) old.yard new.yard
-      → new.grants.items ≡ old.grants.items ++ grants_out width less i n (on old.yard.lists wire) → vec_capacity new.grants ≡ vec_capacity old.grants
+  pub lane-left : (i width less : ℕ) → width ≡ v.start.network.table.width → less ≡ base v.start
+      → new.seat.me.0 ≡ after_sweep wire (Exit i) n v → Frees (on old.yard.lists wire) old.yard new.yard
+      → new.grants.items ≡ old.grants.items ++ grants_out width less i n (on old.yard.lists wire)
+      → vec_capacity new.grants ≡ vec_capacity old.grants
       → new.quota ≡ old.quota → new.room ≡ old.room → IsLane new
   lane-left i width less wide came view frees grants capacity quota room =
       let like = kin-by (Exit i) n tokens v in
@@ -187,10 +202,13 @@ module _ (old new : Inside) (wire n : ℕ) (kept : IsLane old) (no_slot : new.se
       record {
         no_slot = no_slot;
         idle = ap (λ (w : View). w.loads) view ∙ like.loads ∙ kept.idle;
-        tokens = freed-tokens i n tokens old.yard new.yard v kept.tokens (subst (λ (es : List (ℕ × ℕ)). Frees es old.yard new.yard) there frees)
+        tokens = freed-tokens i n tokens old.yard new.yard v kept.tokens
+            (subst (λ (es : List (ℕ × ℕ)). Frees es old.yard new.yard) there frees)
             ∙ ap (λ (w : View). w.tokens) (sym view);
-        wires = all.wires ∙ kept.wires ∙ ap (λ (s : Start). length s.network.table.ends) (sym like.start) ∙ ap (λ (w : View). length w.start.network.table.ends) (sym view);
-        grants = grants ∙ (λ x. kept.grants x ++ grants_out (wide x) (came x) i n (there x)) ∙ sym (grants-left i n tokens v) ∙ ap (λ (w : View). w.grants) (sym view);
+        wires = all.wires ∙ kept.wires ∙ ap (λ (s : Start). length s.network.table.ends) (sym like.start)
+            ∙ ap (λ (w : View). length w.start.network.table.ends) (sym view);
+        grants = grants ∙ (λ x. kept.grants x ++ grants_out (wide x) (came x) i n (there x)) ∙ sym (grants-left i n tokens v)
+            ∙ ap (λ (w : View). w.grants) (sym view);
         quota = quota ∙ kept.quota ∙ sym like.quota ∙ ap (λ (w : View). w.quota) (sym view);
         small = subst FitsLanes (sym like.start ∙ ap (λ (w : View). w.start) (sym view)) kept.small;
         few = omega (arith, kept.few, all.tokens);

@@ -21,7 +21,8 @@ lower-many (suc zero) es low = omega (arith, (halves es).0)
 lower-many (suc (suc q)) es low = absurd (omega (arith, low))
 
 -- the name of each grant
-pub grant-at : (width less i n k : ℕ) (tokens : List (ℕ × ℕ)) (d : Grant) → k < length tokens → (get_or (grants_out width less i n tokens) k d).name ≡ name_of width i (n + k) - less
+pub grant-at : (width less i n k : ℕ) (tokens : List (ℕ × ℕ)) (d : Grant) → k < length tokens
+    → (get_or (grants_out width less i n tokens) k d).name ≡ name_of width i (n + k) - less
 unfolding grants_out
 grant-at width less i n k [] d low = absurd (omega (arith, low))
 grant-at width less i n zero (e ∷ rest) d low = let same : n ≡ n + 0 = omega arith in ap (λ (m : ℕ). name_of width i m - less) same
@@ -55,7 +56,8 @@ name-next zero i n = omega arith
 name-next (suc w) i n = omega (arith, name-next w i n)
 
 -- the names of all who leave together are numbers of 64 bits, and so is the next
-pub names-fit : (start : Start) (wire i n : ℕ) (v w : View) → IsStart start → GoTogether start wire (Exit i) n v w → start.network.table.width ≤ 4096
+pub names-fit : (start : Start) (wire i n : ℕ) (v w : View) → IsStart start → GoTogether start wire (Exit i) n v w
+    → start.network.table.width ≤ 4096
     → name_of start.network.table.width i (n + length (on v.tokens wire)) < 2 ^ 64
 names-fit start wire i n v w began go narrow =
     let width : ℕ = start.network.table.width in
@@ -64,7 +66,14 @@ names-fit start wire i n v w began go narrow =
     let d : Grant = record { client = 0; exit = 0; visit = 0; name = 0 } in
     let out = grants_out width (base start) i n tokens in
     let grew = grants-by start wire i n v w go in
-    let inside : length v.grants + k < length w.grants = omega (arith, ap (λ (gs : List Grant). length gs) grew, length-append v.grants out, grants-many width (base start) i n tokens, go.some) in
+    let inside : length v.grants + k < length w.grants =
+    omega (
+      arith,
+      ap (λ (gs : List Grant). length gs) grew,
+      length-append v.grants out,
+      grants-many width (base start) i n tokens,
+      go.some,
+    ) in
     let low = names-low start w began (state-after _ _ _ _ go.by.step) (length v.grants + k) d inside in
     let at : (get_or w.grants (length v.grants + k) d).name ≡ name_of width i (n + k) - base start =
     ap (λ (gs : List Grant). (get_or gs (length v.grants + k) d).name) grew

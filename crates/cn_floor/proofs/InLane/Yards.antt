@@ -26,7 +26,8 @@ unfolding standing_below
 stands-below y wire token zero some h = absurd (omega arith)
 stands-below y wire token (suc n) some h = by (lookup (eqb token) (on y n)) refl (λ l. stands-below y wire token n some l)
   where
-    by : (o : Option ℕ) → lookup (eqb token) (on y n) ≡ o → (wire < n → IsSome (standing_below n y token)) → IsSome (here_or n o (standing_below n y token))
+    by : (o : Option ℕ) → lookup (eqb token) (on y n) ≡ o → (wire < n → IsSome (standing_below n y token))
+        → IsSome (here_or n o (standing_below n y token))
     by (Some c) is rest = search rules
     by None is rest = elim (cases_eq wire n) [
       | inl e ↦ absurd (none (on y n) (subst (λ (u : ℕ). IsSome (lookup (eqb token) (on y u))) e some) is)
@@ -46,4 +47,7 @@ nobody-in n =
     nobody-there (empty n).lists (λ u. ap (λ (es : List (ℕ × ℕ)). length es) (none u))
   where
     none : (u : ℕ) → on (empty n).lists u ≡ []
-    none u = elim (cases_lt u n) [ inl l ↦ get_or-replicate n u [] [] l | inr l ↦ get_or_past (replicate n []) u [] (omega (arith, length-replicate {A = List (ℕ × ℕ)} n [])) ]
+    none u = elim (cases_lt u n) [
+      | inl l ↦ get_or-replicate n u [] [] l
+      | inr l ↦ get_or_past (replicate n []) u [] (omega (arith, length-replicate {A = List (ℕ × ℕ)} n []))
+    ]

@@ -26,7 +26,8 @@ at-one n w g h =
 pub weighed-on : (n : ℕ) (g : ℕ → ℕ) (old new from to : ℕ → ℕ) → ((u : ℕ) → new u + from u ≡ old u + to u)
     → sum_below n (λ u. g u * new u) + sum_below n (λ u. g u * from u) ≡ sum_below n (λ u. g u * old u) + sum_below n (λ u. g u * to u)
 weighed-on n g old new from to h =
-    sum-below-shift n (λ u. g u * new u) (λ u. g u * from u) (λ u. g u * old u) (λ u. g u * to u) (λ u l. weighed (g u) (new u) (from u) (old u) (to u) (h u))
+    sum-below-shift n (λ u. g u * new u) (λ u. g u * from u) (λ u. g u * old u) (λ u. g u * to u)
+    (λ u l. weighed (g u) (new u) (from u) (old u) (to u) (h u))
 
 -- a sum of nothing
 pub at-none : (n : ℕ) (g : ℕ → ℕ) → sum_below n (λ u. g u * 0) ≡ 0
@@ -37,52 +38,61 @@ once n f = sum-below-same n (λ u. 1 * f u) f (λ u l. omega arith)
 
 -- ---- who comes in
 
-module _ (network : Network) (token client entry : ℕ) (v : View) (low : entry < network.table.entries) (inside : entry < length v.tokens) where
-  abbrev came : View
-  came = after_enter token client entry v
+module _ (network : Network) (token client entry : ℕ) (v : View) (low : entry < network.table.entries) (inside : entry < length v.tokens)
+  where
+    abbrev came : View
+    came = after_enter token client entry v
 
-  wires-came : length came.tokens ≡ length v.tokens
-  wires-came = length-map-range_with_len (λ u. on v.tokens u ++ last_on token client entry u) 0 (length v.tokens)
+    wires-came : length came.tokens ≡ length v.tokens
+    wires-came = length-map-range_with_len (λ u. on v.tokens u ++ last_on token client entry u) 0 (length v.tokens)
 
-  weighed-came : (g : ℕ → ℕ) → sum_below (length came.tokens) (λ u. g u * on_in u came) ≡ sum_below (length v.tokens) (λ u. g u * on_in u v) + g entry
-  weighed-came g =
-      let n : ℕ = length v.tokens in
-      let moved = weighed-on n g (λ u. on_in u v) (λ u. on_in u came) (λ _. 0) (one_at entry) (λ u. omega (arith, on-after-enter token client entry v inside u)) in
-      ap (λ (k : ℕ). sum_below k (λ u. g u * on_in u came)) wires-came ∙ omega (arith, at-none n g, at-one n entry g inside)
+    weighed-came : (g : ℕ → ℕ) → sum_below (length came.tokens) (λ u. g u * on_in u came)
+        ≡ sum_below (length v.tokens) (λ u. g u * on_in u v) + g entry
+    weighed-came g =
+        let n : ℕ = length v.tokens in
+        let moved = weighed-on n g (λ u. on_in u v) (λ u. on_in u came) (λ _. 0) (one_at entry)
+        (λ u. omega (arith, on-after-enter token client entry v inside u)) in
+        ap (λ (k : ℕ). sum_below k (λ u. g u * on_in u came)) wires-came ∙ omega (arith, at-none n g, at-one n entry g inside)
 
-  pub accounted-after-enter : IsAccounted network v → IsAccounted network came
-  accounted-after-enter account = record {
-    all = omega (
-      arith,
-      account.all,
-      length_push v.entries entry,
-      weighed-came (λ _. 1),
-      once (length came.tokens) (λ u. on_in u came),
-      once (length v.tokens) (λ u. on_in u v),
-    );
-    entries = All-push (λ (u : ℕ). u < network.table.entries) v.entries entry account.entries low;
-    walked = λ level is. omega (arith, account.walked level is, weighed-came level, is.entry entry low);
-  }
+    pub accounted-after-enter : IsAccounted network v → IsAccounted network came
+    accounted-after-enter account = record {
+      all = omega (
+        arith,
+        account.all,
+        length_push v.entries entry,
+        weighed-came (λ _. 1),
+        once (length came.tokens) (λ u. on_in u came),
+        once (length v.tokens) (λ u. on_in u v),
+      );
+      entries = All-push (λ (u : ℕ). u < network.table.entries) v.entries entry account.entries low;
+      walked = λ level is. omega (arith, account.walked level is, weighed-came level, is.entry entry low);
+    }
 
 -- ---- who goes
 
-module _ (network : Network) (token client wire n : ℕ) (v : View) (is : IsThere v.tokens token client wire) (there : wire < length network.table.ends) (of : v.start.network ≡ network) where
+module _ (network : Network) (token client wire n : ℕ) (v : View) (is : IsThere v.tokens token client wire)
+    (there : wire < length network.table.ends) (of : v.start.network ≡ network) where
   abbrev went : End → View
   went end = after_step token client end n v
 
   wires-went : (end : End) → length (went end).tokens ≡ length v.tokens
-  wires-went (Balancer b) = length-map-range_with_len (λ u. without token (get_or v.tokens u []) ++ last_on token client (output_wire v.start.network.table b (n % 2)) u) 0 (length v.tokens)
+  wires-went (Balancer b) = length-map-range_with_len
+      (λ u. without token (get_or v.tokens u []) ++ last_on token client (output_wire v.start.network.table b (n % 2)) u) 0
+      (length v.tokens)
   wires-went (Exit i) = length-map-range_with_len (λ u. without token (get_or v.tokens u []) ++ []) 0 (length v.tokens)
 
   pub weighed-went : (g : ℕ → ℕ) (end : End) → Lands n v end
-      → sum_below (length (went end).tokens) (λ u. g u * on_in u (went end)) + g wire ≡ sum_below (length v.tokens) (λ u. g u * on_in u v) + sum_below (length v.tokens) (λ u. g u * onto n v end u)
+      → sum_below (length (went end).tokens) (λ u. g u * on_in u (went end)) + g wire
+      ≡ sum_below (length v.tokens) (λ u. g u * on_in u v) + sum_below (length v.tokens) (λ u. g u * onto n v end u)
   weighed-went g end lands =
       let m : ℕ = length v.tokens in
-      let moved = weighed-on m g (λ u. on_in u v) (λ u. on_in u (went end)) (one_at wire) (onto n v end) (λ u. on-after_step token client wire n v is end lands u) in
+      let moved = weighed-on m g (λ u. on_in u v) (λ u. on_in u (went end)) (one_at wire) (onto n v end)
+      (λ u. on-after_step token client wire n v is end lands u) in
       let same = ap (λ (k : ℕ). sum_below k (λ u. g u * on_in u (went end))) (wires-went end) in
       omega (arith, at-one m wire g is.inside)
 
-  pub accounted-after_step : (end : End) → end_of network.table wire ≡ end → Lands n v end → IsAccounted network v → IsAccounted network (went end)
+  pub accounted-after_step : (end : End) → end_of network.table wire ≡ end → Lands n v end → IsAccounted network v
+      → IsAccounted network (went end)
   accounted-after_step (Balancer b) ends lands account =
       let out : ℕ = output_wire v.start.network.table b (n % 2) in
       let m : ℕ = length v.tokens in
@@ -97,8 +107,15 @@ module _ (network : Network) (token client wire n : ℕ) (v : View) (is : IsTher
         );
         entries = account.entries;
         walked = λ level lv.
-            let deeper : level out ≡ level wire + 1 = ap (λ (x : Network). level (output_wire x.table b (n % 2))) of ∙ lv.output wire b (n % 2) there ends (omega arith) in
-            omega (arith, account.walked level lv, weighed-went level (Balancer b) lands, at-one m out level lands, length_push v.passages (record { balancer = b; number = n }));
+            let deeper : level out ≡ level wire + 1 =
+            ap (λ (x : Network). level (output_wire x.table b (n % 2))) of ∙ lv.output wire b (n % 2) there ends (omega arith) in
+            omega (
+              arith,
+              account.walked level lv,
+              weighed-went level (Balancer b) lands,
+              at-one m out level lands,
+              length_push v.passages (record { balancer = b; number = n }),
+            );
       }
   accounted-after_step (Exit i) ends lands account =
       let m : ℕ = length v.tokens in
@@ -116,6 +133,7 @@ module _ (network : Network) (token client wire n : ℕ) (v : View) (is : IsTher
         entries = account.entries;
         walked = λ level lv.
             let last : level wire ≡ network.depth = lv.exit wire i there ends in
-            let more : network.depth * length (v.grants ++ g ∷ []) ≡ network.depth * (length v.grants + 1) = ap (λ (k : ℕ). network.depth * k) (length_push v.grants g) in
+            let more : network.depth * length (v.grants ++ g ∷ []) ≡ network.depth * (length v.grants + 1) =
+            ap (λ (k : ℕ). network.depth * k) (length_push v.grants g) in
             omega (arith, account.walked level lv, weighed-went level (Exit i) lands, at-none m level);
       }

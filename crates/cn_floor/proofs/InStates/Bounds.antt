@@ -13,7 +13,8 @@ module _ (start : Start) (s : State (Unit {0}) View) (kept : HoldsAt start s) wh
   -- as many came as before, and the entries of all views
   pub all-came : clients_in t s.words ≡ base start + sum_by (λ (v : View). length v.entries) s.views
   all-came =
-      sum-below-same t.entries (entered_in t s.words) (λ u. entered_in t start.words u + sum_by (λ (v : View). times u v.entries) s.views) kept.rule.entered
+      sum-below-same t.entries (entered_in t s.words) (λ u. entered_in t start.words u + sum_by (λ (v : View). times u v.entries) s.views)
+      kept.rule.entered
       ∙ sum-below-plus t.entries (entered_in t start.words) (λ u. sum_by (λ (v : View). times u v.entries) s.views)
       ∙ ap (λ (k : ℕ). base start + k)
       (sum-below-total (λ u (v : View). times u v.entries) s.views t.entries
@@ -35,7 +36,8 @@ module _ (start : Start) (s : State (Unit {0}) View) (kept : HoldsAt start s) wh
     | inr l ↦ l
     | inl l ↦
         let n : ℕ = count_in t s.words end in
-        let there : ◌≡◌ {A = ℕ} (once_below (count_in t start.words end) n) 1 = ap {B = ℕ} (λ b. cond b 1 0) (lt-ltb n (count_in t start.words end) l) in
+        let there : ◌≡◌ {A = ℕ} (once_below (count_in t start.words end) n) 1 =
+        ap {B = ℕ} (λ b. cond b 1 0) (lt-ltb n (count_in t start.words end) l) in
         let none : ◌≡◌ {A = ℕ} (once_below (count_in t s.words end) n) 0 = ap {B = ℕ} (λ b. cond b 1 0) (le-ltb n n (omega arith)) in
         absurd (omega (arith, kept.rule.sound.numbered end n stands))
   ]
@@ -49,5 +51,6 @@ module _ (start : Start) (s : State (Unit {0}) View) (kept : HoldsAt start s) wh
       let shared : count_in t start.words (Exit i) ≡ share (base start) t.width i = was.counts i h in
       elim (cases_lt (name_of t.width i n) (base start)) [
         | inr l ↦ l
-        | inl l ↦ let below : n < share (base start) t.width i = (name-below (base start) t.width i n h).1 l in absurd (omega (arith, count-risen (Exit i) h))
+        | inl l ↦ let below : n < share (base start) t.width i = (name-below (base start) t.width i n h).1 l in
+            absurd (omega (arith, count-risen (Exit i) h))
       ]

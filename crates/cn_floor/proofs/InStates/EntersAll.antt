@@ -23,7 +23,8 @@ module _ (start : Start) (id entry : ℕ) (clients : List ℕ) (low : entry < st
     pub words : List ℕ
     pub words_are : words ≡ set s.words word (get_or s.words word 0 + n)
     pub kept : HoldsAt start (record { words = words; homes = s.homes; views = set s.views id (after_enters clients entry place n v) })
-    pub in_turn : EnterInTurn t clients entry place n (ledger_of t start.words s.words s.views) (ledger_of t start.words words (set s.views id (after_enters clients entry place n v)))
+    pub in_turn : EnterInTurn t clients entry place n (ledger_of t start.words s.words s.views)
+        (ledger_of t start.words words (set s.views id (after_enters clients entry place n v)))
 
   pub all-enter : (n place : ℕ) (s : State (Unit {0}) View) (v : View) → HoldsAt start s → get_elem? s.views id ≡ some v → v.start ≡ start
       → entry < length v.tokens → n ≤ v.quota → v.loads ≡ [] → HaveCome s v place n
@@ -44,10 +45,12 @@ module _ (start : Start) (id entry : ℕ) (clients : List ℕ) (low : entry < st
       let raise : List ℕ = raised s.words word in
       let then : View = after_enter place client entry v in
       let kept-then = kept-after-enter start id place client entry v s kept here of low inside (omega (arith, enough)) idle in
-      let long : length then.tokens ≡ length v.tokens = length-map-range_with_len (λ u. on v.tokens u ++ last_on place client entry u) 0 (length v.tokens) in
+      let long : length then.tokens ≡ length v.tokens =
+      length-map-range_with_len (λ u. on v.tokens u ++ last_on place client entry u) 0 (length v.tokens) in
       let later = all-enter n (suc place) (record { words = raise; homes = s.homes; views = set s.views id then }) then kept-then
       (get-here s.views id v then here) of (omega (arith, inside, long)) (omega (arith, enough)) idle in
-      let views : set (set s.views id then) id (after_enters clients entry (suc place) n then) ≡ set s.views id (after_enters clients entry (suc place) n then) =
+      let views : set (set s.views id then) id (after_enters clients entry (suc place) n then)
+      ≡ set s.views id (after_enters clients entry (suc place) n then) =
       set-set s.views id then (after_enters clients entry (suc place) n then) in
       let within : word < length s.words = omega (arith, kept.rule.words, low) in
       let raise-at : get_or raise word 0 ≡ get_or s.words word 0 + 1 = get_or-set_same s.words word (get_or s.words word 0 + 1) 0 within in
@@ -59,7 +62,8 @@ module _ (start : Start) (id entry : ℕ) (clients : List ℕ) (low : entry < st
         in_turn = (
           ledger_of t start.words raise (set s.views id then),
           came_in start id place client entry v s kept here of low inside (omega (arith, enough)),
-          subst (λ (vs : List View). EnterInTurn t clients entry (suc place) n (ledger_of t start.words raise (set s.views id then)) (ledger_of t start.words later.words vs)) views later.in_turn,
+          subst (λ (vs : List View). EnterInTurn t clients entry (suc place) n (ledger_of t start.words raise (set s.views id then))
+              (ledger_of t start.words later.words vs)) views later.in_turn,
         );
       }
     where
@@ -67,9 +71,11 @@ module _ (start : Start) (id entry : ℕ) (clients : List ℕ) (low : entry < st
       one-more x y k e = omega (arith, e)
 
 -- all may come in, by one add
-may-enter-all : (start : Start) (slots id : ℕ) (me : Me (Unit {0}) View) (clients : List ℕ) (entry : ℕ) → me.1 ≡ [] → me.0.loads ≡ [] → me.0.start ≡ start
+may-enter-all : (start : Start) (slots id : ℕ) (me : Me (Unit {0}) View) (clients : List ℕ) (entry : ℕ) → me.1 ≡ [] → me.0.loads ≡ []
+    → me.0.start ≡ start
     → entry < start.network.table.entries → entry < length me.0.tokens → length clients ≤ me.0.quota
-    → Allows (HoldsAt start) slots id me (1 + entry) (λ n. (n + length clients) % 2 ^ 64) (λ n new. (new.1 ≡ []) × AllComeIn (record { start = start; clients = clients; entry = entry }) me.0 new.0)
+    → Allows (HoldsAt start) slots id me (1 + entry) (λ n. (n + length clients) % 2 ^ 64)
+    (λ n new. (new.1 ≡ []) × AllComeIn (record { start = start; clients = clients; entry = entry }) me.0 new.0)
 may-enter-all start slots id me clients entry no_slot idle of low inside enough s kept homes here fits =
     let t : Table = start.network.table in
     let v : View = me.0 in
@@ -84,15 +90,25 @@ may-enter-all start slots id me clients entry no_slot idle of low inside enough 
     let again : set come.views id w ≡ set s.views id w = set-set s.views id g w in
     let after : State (Unit {0}) View = record { words = words; homes = s.homes; views = set s.views id w } in
     let kept-w : HoldsAt start after =
-    subst (λ (vs : List View). HoldsAt start (record { words = words; homes = s.homes; views = vs })) again (kept-recounted start come id g (v.steps + 1) g-here all.kept) in
+    subst (λ (vs : List View). HoldsAt start (record { words = words; homes = s.homes; views = vs })) again
+    (kept-recounted start come id g (v.steps + 1) g-here all.kept) in
     let within : at < length s.words = omega (arith, kept.rule.words, low) in
-    let now : get_or words at 0 ≡ n + length clients = ap (λ (ws : List ℕ). get_or ws at 0) all.words_are ∙ get_or-set_same s.words at (n + length clients) 0 within in
-    let few : n + length clients ≤ base start + start.quota = omega (arith, now, entered-word t words entry low, sum-below-part t.entries entry (entered_in t words) low, few-came start after kept-w) in
+    let now : get_or words at 0 ≡ n + length clients =
+    ap (λ (ws : List ℕ). get_or ws at 0) all.words_are ∙ get_or-set_same s.words at (n + length clients) 0 within in
+    let few : n + length clients ≤ base start + start.quota =
+    omega (
+      arith,
+      now,
+      entered-word t words entry low,
+      sum-below-part t.entries entry (entered_in t words) low,
+      few-came start after kept-w,
+    ) in
     let bound = kept.began.quota in
     let carried = kept.began.few in
     let no-wrap : n + length clients ≡ (n + length clients) % 18446744073709551616 = omega arith in
     let words-now : words ≡ set s.words at ((n + length clients) % 18446744073709551616) = all.words_are ∙ ap (set s.words at) no-wrap in
-    let same = ledger-alike t start.words words come.views (set come.views id w) (counted-alike start come id g (v.steps + 1) g-here (clients_in t start.words)) ∙ ap (ledger_of t start.words words) again in (
+    let same = ledger-alike t start.words words come.views (set come.views id w)
+    (counted-alike start come id g (v.steps + 1) g-here (clients_in t start.words)) ∙ ap (ledger_of t start.words words) again in (
       w,
       keeps,
       tt,
@@ -108,10 +124,14 @@ may-enter-all start slots id me clients entry no_slot idle of low inside enough 
     )
 
 -- the same, with the number of clients as it is added
-pub enter-all-by : (start : Start) (slots id : ℕ) (me : Me (Unit {0}) View) (is : EnteringAll) (clients : List ℕ) (entry count : ℕ) → is ≡ record { start = start; clients = clients; entry = entry }
-    → me.1 ≡ [] → me.0.loads ≡ [] → me.0.start ≡ start → entry < start.network.table.entries → entry < length me.0.tokens → count ≤ me.0.quota → length clients ≡ count
+pub enter-all-by : (start : Start) (slots id : ℕ) (me : Me (Unit {0}) View) (is : EnteringAll) (clients : List ℕ) (entry count : ℕ)
+    → is ≡ record { start = start; clients = clients; entry = entry }
+    → me.1 ≡ [] → me.0.loads ≡ [] → me.0.start ≡ start → entry < start.network.table.entries → entry < length me.0.tokens
+    → count ≤ me.0.quota → length clients ≡ count
     → Allows (HoldsAt start) slots id me (1 + entry) (λ n. (n + count) % 2 ^ 64) (λ n new. (new.1 ≡ []) × AllComeIn is me.0 new.0)
 enter-all-by start slots id me is clients entry count same no_slot idle of low inside enough many =
-    subst (λ (x : EnteringAll). Allows (HoldsAt start) slots id me (1 + entry) (λ n. (n + count) % 2 ^ 64) (λ n new. (new.1 ≡ []) × AllComeIn x me.0 new.0)) (sym same)
-    (subst (λ (k : ℕ). Allows (HoldsAt start) slots id me (1 + entry) (λ n. (n + k) % 2 ^ 64) (λ n new. (new.1 ≡ []) × AllComeIn (record { start = start; clients = clients; entry = entry }) me.0 new.0)) many
+    subst (λ (x : EnteringAll). Allows (HoldsAt start) slots id me (1 + entry) (λ n. (n + count) % 2 ^ 64)
+    (λ n new. (new.1 ≡ []) × AllComeIn x me.0 new.0)) (sym same)
+    (subst (λ (k : ℕ). Allows (HoldsAt start) slots id me (1 + entry) (λ n. (n + k) % 2 ^ 64)
+    (λ n new. (new.1 ≡ []) × AllComeIn (record { start = start; clients = clients; entry = entry }) me.0 new.0)) many
     (may-enter-all start slots id me clients entry no_slot idle of low inside (omega (arith, enough, many))))

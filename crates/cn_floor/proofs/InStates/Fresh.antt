@@ -41,7 +41,8 @@ module _ (t : Table) (words : List ℕ) where
 
   -- what is loaded now is what was to be loaded
   pub load-bound-more : (ls : List ℕ) → load_bound t words (ls ++ word (length ls) ∷ []) ≡ load_bound t words ls
-  load-bound-more ls = sum-below-same t.entries (λ u. get_or (ls ++ word (length ls) ∷ []) u (word u)) (λ u. get_or ls u (word u)) (λ u less. at_more ls u word)
+  load-bound-more ls = sum-below-same t.entries (λ u. get_or (ls ++ word (length ls) ∷ []) u (word u)) (λ u. get_or ls u (word u))
+      (λ u less. at_more ls u word)
 
   pub load-bound-all : (ls : List ℕ) → length ls ≡ t.entries → load_bound t words ls ≡ sum ls
   load-bound-all ls e = ap (λ (n : ℕ). sum_below n (λ u. get_or ls u (word u))) (sym e) ∙ whole ls word
@@ -52,15 +53,19 @@ module _ (t : Table) (words : List ℕ) where
   pub load-bound-few : (ls : List ℕ) → ((u : ℕ) → get_or ls u 0 ≤ word u) → load_bound t words ls ≤ clients_in t words
   load-bound-few ls low = sum-below-le t.entries (λ u. get_or ls u (word u)) word (λ u less. at_low ls u (word u) (low u))
 
-  pub load-bound-grown : (more : List ℕ) (ls : List ℕ) → ((u : ℕ) → word u ≤ entered_in t more u) → load_bound t words ls ≤ load_bound t more ls
-  load-bound-grown more ls up = sum-below-le t.entries (λ u. get_or ls u (word u)) (λ u. get_or ls u (entered_in t more u)) (λ u less. at-grown ls u (word u) (entered_in t more u) (up u))
+  pub load-bound-grown : (more : List ℕ) (ls : List ℕ) → ((u : ℕ) → word u ≤ entered_in t more u)
+      → load_bound t words ls ≤ load_bound t more ls
+  load-bound-grown more ls up = sum-below-le t.entries (λ u. get_or ls u (word u)) (λ u. get_or ls u (entered_in t more u))
+      (λ u less. at-grown ls u (word u) (entered_in t more u) (up u))
 
 -- names stay below what grows
 pub names_below : (gs : List Grant) (k m n : ℕ) → m ≤ n → All (λ (g : Grant). k + g.name < m) gs → All (λ (g : Grant). k + g.name < n) gs
 names_below gs k m n h all = λ j d less. let f = all j d less in omega (arith, f)
 
 -- what others do
-pub fresh-grown : (start : Start) (words more : List ℕ) (v : View) → ((u : ℕ) → entered_in start.network.table words u ≤ entered_in start.network.table more u) → IsFresh start words v → IsFresh start more v
+pub fresh-grown : (start : Start) (words more : List ℕ) (v : View)
+    → ((u : ℕ) → entered_in start.network.table words u ≤ entered_in start.network.table more u) → IsFresh start words v
+    → IsFresh start more v
 fresh-grown start words more v up fresh =
     let t = start.network.table in
     let grown : load_bound t words v.loads ≤ load_bound t more v.loads = load-bound-grown t words more v.loads up in
@@ -81,7 +86,8 @@ module _ (start : Start) (words : List ℕ) (v : View) (fresh : IsFresh start wo
   fresh-by : (b : Bool) → (b ≡ true → length v.loads + 1 ≡ t.entries) → IsFresh start words (after_load_by b start ls v)
   fresh-by true at_last =
       let same : load_bound t words ls ≡ load_bound t words v.loads = load-bound-more t words v.loads in
-      let all : load_bound t words ls ≡ sum ls = load-bound-all t words ls (omega (arith, at_last refl, length_push v.loads (entered_in t words (length v.loads)))) in
+      let all : load_bound t words ls ≡ sum ls =
+      load-bound-all t words ls (omega (arith, at_last refl, length_push v.loads (entered_in t words (length v.loads)))) in
       let few : load_bound t words ls ≤ clients_in t words = load-bound-few t words ls (low-more v.loads (entered_in t words) fresh.low) in
       record {
         low = λ u. omega arith;

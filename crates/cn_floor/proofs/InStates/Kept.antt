@@ -15,14 +15,16 @@ pub record AddUpAlike (m : ℕ) (old new : List View) : Type 0 where
   pub quotas : sum_by (λ (x : View). x.quota + length x.entries) old ≡ sum_by (λ (x : View). x.quota + length x.entries) new
 
 -- so the ledger is the same
-pub ledger-alike : (t : Table) (carried words : List ℕ) (old new : List View) → AddUpAlike (clients_in t carried) old new → ledger_of t carried words old ≡ ledger_of t carried words new
+pub ledger-alike : (t : Table) (carried words : List ℕ) (old new : List View) → AddUpAlike (clients_in t carried) old new
+    → ledger_of t carried words old ≡ ledger_of t carried words new
 ledger-alike t carried words old new same = λ x. record {
   entered = entered_in t words;
   count = count_in t words;
   on = λ u. same.on u x;
   standing = λ u c. same.standing u c x;
   given = λ end n. once_below (count_in t carried end) n + same.given end n x;
-  granted = λ c i v name. when (eqb 0 c && (ltb v (count_in t carried (Exit i)) && eqb (name_of t.width i v) name)) 1 + same.granted c i v name x;
+  granted = λ c i v name. when (eqb 0 c && (ltb v (count_in t carried (Exit i)) && eqb (name_of t.width i v) name)) 1
+      + same.granted c i v name x;
 }
 
 pub kept_alike : (start : Start) (s : State (Unit {0}) View) (new : List View) → HoldsAt start s → AddUpAlike (base start) s.views new
@@ -84,7 +86,8 @@ module _ (start : Start) (s : State (Unit {0}) View) (id : ℕ) (g : View) (k : 
       (at_set s.views id i w x e))
 
 -- where one view changes and the rule holds before and after, that is one atomic step
-pub one-step : (start : Start) (s : State (Unit {0}) View) (words : List ℕ) (id : ℕ) (v w : View) (event : Ledger → Ledger → Type 0) → get_elem? s.views id ≡ some v
+pub one-step : (start : Start) (s : State (Unit {0}) View) (words : List ℕ) (id : ℕ) (v w : View) (event : Ledger → Ledger → Type 0)
+    → get_elem? s.views id ≡ some v
     → KeepsRule start s → KeepsRule start (record { words = words; homes = s.homes; views = set s.views id w })
     → event (ledger_of start.network.table start.words s.words s.views) (ledger_of start.network.table start.words words (set s.views id w))
     → IsAtomicStep start v w event

@@ -36,8 +36,13 @@ module _ (token client entry : ℕ) (v : View) (inside : entry < length v.tokens
       let a = weigh-come v.tokens token client entry inside w (λ _. 1) in
       omega (arith, ones (get_or v.tokens w []), ones (get_or (after_enter token client entry v).tokens w []))
 
-  pub standing-after-enter : (w d : ℕ) → standing_in w d (after_enter token client entry v) ≡ standing_in w d v + when (eqb entry w && eqb client d) 1
-  standing-after-enter w d = omega (arith, weigh-come v.tokens token client entry inside w (λ e. cond (eqb e.1 d) 1 0), there-once entry w client d)
+  pub standing-after-enter : (w d : ℕ) → standing_in w d (after_enter token client entry v)
+      ≡ standing_in w d v + when (eqb entry w && eqb client d) 1
+  standing-after-enter w d = omega (
+    arith,
+    weigh-come v.tokens token client entry inside w (λ e. cond (eqb e.1 d) 1 0),
+    there-once entry w client d,
+  )
 
   pub given-after-enter : (end : End) (n : ℕ) → given_in end n (after_enter token client entry v) ≡ given_in end n v
   given-after-enter (Balancer b) n = refl
@@ -54,7 +59,8 @@ Lands n v (Balancer b) = output_wire v.start.network.table b (n % 2) < length v.
 Lands n v (Exit i) = Unit {0}
 
 module _ (token client wire n : ℕ) (v : View) (is : IsThere v.tokens token client wire) where
-  pub on-after_step : (end : End) → Lands n v end → (w : ℕ) → on_in w (after_step token client end n v) + one_at wire w ≡ on_in w v + onto n v end w
+  pub on-after_step : (end : End) → Lands n v end → (w : ℕ)
+      → on_in w (after_step token client end n v) + one_at wire w ≡ on_in w v + onto n v end w
   on-after_step (Balancer b) lands w =
       let a = weigh-pass v.tokens token client wire (output_wire v.start.network.table b (n % 2)) is lands w (λ _. 1) in
       omega (arith, ones (get_or v.tokens w []), ones (get_or (after_step token client (Balancer b) n v).tokens w []))
@@ -63,15 +69,28 @@ module _ (token client wire n : ℕ) (v : View) (is : IsThere v.tokens token cli
       omega (arith, ones (get_or v.tokens w []), ones (get_or (after_step token client (Exit i) n v).tokens w []))
 
   pub standing-after_step : (end : End) → Lands n v end → (w d : ℕ)
-      → standing_in w d (after_step token client end n v) + when (eqb wire w && eqb client d) 1 ≡ standing_in w d v + when (eqb client d) (onto n v end w)
+      → standing_in w d (after_step token client end n v) + when (eqb wire w && eqb client d) 1
+      ≡ standing_in w d v + when (eqb client d) (onto n v end w)
   standing-after_step (Balancer b) lands w d =
       let out : ℕ = output_wire v.start.network.table b (n % 2) in
-      omega (arith, weigh-pass v.tokens token client wire out is lands w (λ e. cond (eqb e.1 d) 1 0), there-once wire w client d, there-turned out w client d)
+      omega (
+        arith,
+        weigh-pass v.tokens token client wire out is lands w (λ e. cond (eqb e.1 d) 1 0),
+        there-once wire w client d,
+        there-turned out w client d,
+      )
   standing-after_step (Exit i) lands w d =
-      omega (arith, weigh-leave v.tokens token client wire is w (λ e. cond (eqb e.1 d) 1 0), there-once wire w client d, none-turned client d)
+      omega (
+        arith,
+        weigh-leave v.tokens token client wire is w (λ e. cond (eqb e.1 d) 1 0),
+        there-once wire w client d,
+        none-turned client d,
+      )
 
-  pub given-after_step : (end other : End) (k : ℕ) → given_in other k (after_step token client end n v) ≡ given_in other k v + when (is_end end other && eqb n k) 1
-  given-after_step (Balancer b) (Balancer c) k = sum_by_push (λ (p : Passage). cond (eqb c p.balancer && eqb p.number k) 1 0) v.passages (record { balancer = b; number = n })
+  pub given-after_step : (end other : End) (k : ℕ)
+      → given_in other k (after_step token client end n v) ≡ given_in other k v + when (is_end end other && eqb n k) 1
+  given-after_step (Balancer b) (Balancer c) k =
+      sum_by_push (λ (p : Passage). cond (eqb c p.balancer && eqb p.number k) 1 0) v.passages (record { balancer = b; number = n })
   given-after_step (Balancer b) (Exit j) k = omega arith
   given-after_step (Exit i) (Balancer c) k = omega arith
   given-after_step (Exit i) (Exit j) k =
@@ -97,15 +116,21 @@ module _ (start : Start) (words : List ℕ) (views : List View) (id : ℕ) (v : 
         entered = entered-raised t words long entry low;
         count = count-kept t words long entry low;
         on = λ x. omega (arith, total-set (on_in x) views id v w here, on-after-enter token client entry v inside x);
-        standing = λ x d. omega (arith, total-set (standing_in x d) views id v w here, standing-after-enter token client entry v inside x d);
+        standing = λ x d. omega (
+          arith,
+          total-set (standing_in x d) views id v w here,
+          standing-after-enter token client entry v inside x d,
+        );
         given = λ end k. omega (arith, total-set (given_in end k) views id v w here, given-after-enter token client entry v inside end k);
         granted = λ d i k name. omega (arith, total-set (granted_in (base start) d i k name) views id v w here);
       }
 
   -- a client goes by the end of its wire
-  pub goes : (token client wire : ℕ) (end : End) → IsThere v.tokens token client wire → wire < length t.ends → end_of t wire ≡ end → Stands t end
+  pub goes : (token client wire : ℕ) (end : End) → IsThere v.tokens token client wire → wire < length t.ends → end_of t wire ≡ end
+      → Stands t end
       → Lands (count_in t words end) v end
-      → Goes t was (ledger_of t start.words (raised words (end_word t end)) (set views id (after_step token client end (count_in t words end) v))) client wire end (onto (count_in t words end) v end)
+      → Goes t was (ledger_of t start.words (raised words (end_word t end))
+      (set views id (after_step token client end (count_in t words end) v))) client wire end (onto (count_in t words end) v end)
   goes token client wire end is inside ends stands lands =
       let n : ℕ = count_in t words end in
       let w : View = after_step token client end n v in record {
@@ -114,28 +139,41 @@ module _ (start : Start) (words : List ℕ) (views : List View) (id : ℕ) (v : 
         entered = entered-kept t words long end stands;
         count = λ other. count-raised t words long end other stands;
         on = λ x. omega (arith, total-set (on_in x) views id v w here, on-after_step token client wire n v is end lands x);
-        standing = λ x d. omega (arith, total-set (standing_in x d) views id v w here, standing-after_step token client wire n v is end lands x d);
-        given = λ other k. omega (arith, total-set (given_in other k) views id v w here, given-after_step token client wire n v is end other k);
+        standing = λ x d. omega (
+          arith,
+          total-set (standing_in x d) views id v w here,
+          standing-after_step token client wire n v is end lands x d,
+        );
+        given = λ other k. omega (
+          arith,
+          total-set (given_in other k) views id v w here,
+          given-after_step token client wire n v is end other k,
+        );
       }
 
   -- a client passes a balancer
-  pub passes : (token client wire b : ℕ) → IsThere v.tokens token client wire → wire < length t.ends → end_of t wire ≡ Balancer b → b < t.balancers
+  pub passes : (token client wire b : ℕ) → IsThere v.tokens token client wire → wire < length t.ends → end_of t wire ≡ Balancer b
+      → b < t.balancers
       → output_wire t b (count_in t words (Balancer b) % 2) < length v.tokens
-      → Passes t was (ledger_of t start.words (raised words (end_word t (Balancer b))) (set views id (after_step token client (Balancer b) (count_in t words (Balancer b)) v))) client wire b
+      → Passes t was (ledger_of t start.words (raised words (end_word t (Balancer b)))
+      (set views id (after_step token client (Balancer b) (count_in t words (Balancer b)) v))) client wire b
   passes token client wire b is inside ends stands lands =
       let n : ℕ = count_in t words (Balancer b) in
       let w : View = after_step token client (Balancer b) n v in
       let table : v.start.network.table ≡ t = ap (λ (s : Start). s.network.table) of in record {
         goes =
-            subst (λ (x : Table). Goes t was (ledger_of t start.words (raised words (end_word t (Balancer b))) (set views id w)) client wire (Balancer b) (one_at (output_wire x b (n % 2)))) table
-            (goes token client wire (Balancer b) is inside ends stands (subst (λ (x : Table). output_wire x b (n % 2) < length v.tokens) (sym table) lands));
+            subst (λ (x : Table). Goes t was (ledger_of t start.words (raised words (end_word t (Balancer b))) (set views id w)) client wire
+            (Balancer b) (one_at (output_wire x b (n % 2)))) table
+            (goes token client wire (Balancer b) is inside ends stands
+            (subst (λ (x : Table). output_wire x b (n % 2) < length v.tokens) (sym table) lands));
         granted = λ d i k name. omega (arith, total-set (granted_in (base start) d i k name) views id v w here);
       }
 
   -- a client leaves by an exit
   pub leaves : (token client wire i : ℕ) → IsThere v.tokens token client wire → wire < length t.ends → end_of t wire ≡ Exit i → i < t.width
       → base start ≤ name_of t.width i (count_in t words (Exit i))
-      → Leaves t was (ledger_of t start.words (raised words (end_word t (Exit i))) (set views id (after_step token client (Exit i) (count_in t words (Exit i)) v))) client wire i
+      → Leaves t was (ledger_of t start.words (raised words (end_word t (Exit i)))
+      (set views id (after_step token client (Exit i) (count_in t words (Exit i)) v))) client wire i
   leaves token client wire i is inside ends stands later =
       let n : ℕ = count_in t words (Exit i) in
       let w : View = after_step token client (Exit i) n v in
@@ -144,9 +182,11 @@ module _ (start : Start) (words : List ℕ) (views : List View) (id : ℕ) (v : 
       record {
         goes = goes token client wire (Exit i) is inside ends stands tt;
         granted = λ d j k name.
-            let more = sum_by_push (λ (g : Grant). cond (eqb g.client d && (eqb g.exit j && (eqb g.visit k && eqb (g.name + base start) name))) 1 0) v.grants
+            let more = sum_by_push (λ (g : Grant). cond
+            (eqb g.client d && (eqb g.exit j && (eqb g.visit k && eqb (g.name + base start) name))) 1 0) v.grants
             (record { client = client; exit = i; visit = n; name = name_of v.start.network.table.width i n - base v.start }) in
-            let same : ◌≡◌ {A = ℕ} (cond (eqb client d && (eqb i j && (eqb n k && eqb (name_of v.start.network.table.width i n - base v.start + base start) name))) 1 0)
+            let same : ◌≡◌ {A = ℕ} (cond (eqb client d &&
+            (eqb i j && (eqb n k && eqb (name_of v.start.network.table.width i n - base v.start + base start) name))) 1 0)
             (cond (eqb client d && (eqb i j && (eqb n k && eqb (name_of t.width i n) name))) 1 0) =
             ap {B = ℕ} (λ (x : ℕ). cond (eqb client d && (eqb i j && (eqb n k && eqb x name))) 1 0) name_there in
             omega (arith, total-set (granted_in (base start) d j k name) views id v w here, more, same);

@@ -36,7 +36,9 @@ module _ (start : Start) (s : FloorState) (kept : KeepsRule start s) (id : ℕ) 
   made : (j : ℕ) → j < length v.grants → 1 ≤ l.granted (grant j).client (grant j).exit (grant j).visit ((grant j).name + m)
   made j low =
       let g : Grant = grant j in
-      let one : ◌≡◌ {A = ℕ} (cond (is_same g g) 1 0) 1 = rw (eq-eqb g.client g.client refl, eq-eqb g.exit g.exit refl, eq-eqb g.visit g.visit refl, eq-eqb (g.name + m) (g.name + m) refl) refl in
+      let one : ◌≡◌ {A = ℕ} (cond (is_same g g) 1 0) 1 =
+      rw (eq-eqb g.client g.client refl, eq-eqb g.exit g.exit refl, eq-eqb g.visit g.visit refl, eq-eqb (g.name + m) (g.name + m) refl)
+      refl in
       omega (
         arith,
         get_or-le-sum_by (λ x. cond (is_same g x) 1 0) v.grants j no-grant low,
@@ -44,17 +46,26 @@ module _ (start : Start) (s : FloorState) (kept : KeepsRule start s) (id : ℕ) 
       )
 
   -- what has a grant's name is that grant
-  named-alike : (j k name : ℕ) → j < length v.grants → k < length v.grants → (grant j).name ≡ name → eqb (grant k).name name ≡ is_same (grant j) (grant k)
+  named-alike : (j k name : ℕ) → j < length v.grants → k < length v.grants → (grant j).name ≡ name
+      → eqb (grant k).name name ≡ is_same (grant j) (grant k)
   named-alike j k name low less is =
       let g : Grant = grant j in
       let x : Grant = grant k in
       elim (cases_eq x.name name) [
         | inr other ↦
             ne_eqb x.name name other
-            ∙ sym (ap (λ b. eqb x.client g.client && (eqb x.exit g.exit && (eqb x.visit g.visit && b))) (ne_eqb (x.name + m) (g.name + m) (λ e. other (omega arith))) ∙ none-last (eqb x.client g.client) (eqb x.exit g.exit) (eqb x.visit g.visit))
+            ∙ sym (ap (λ b. eqb x.client g.client && (eqb x.exit g.exit && (eqb x.visit g.visit && b)))
+            (ne_eqb (x.name + m) (g.name + m) (λ e. other (omega arith)))
+            ∙ none-last (eqb x.client g.client) (eqb x.exit g.exit) (eqb x.visit g.visit))
         | inl e ↦
-            let (client, exit, visit) = names-differ start.network.table l kept.sound x.client g.client x.exit g.exit x.visit g.visit (x.name + m) (g.name + m) (made k less) (made j low) (omega arith) in
-            eq-eqb x.name name e ∙ sym (rw (eq-eqb x.client g.client client, eq-eqb x.exit g.exit exit, eq-eqb x.visit g.visit visit, eq-eqb (x.name + m) (g.name + m) (omega arith)) refl)
+            let (client, exit, visit) = names-differ start.network.table l kept.sound x.client g.client x.exit g.exit x.visit g.visit
+            (x.name + m) (g.name + m) (made k less) (made j low) (omega arith) in
+            eq-eqb x.name name e ∙ sym (rw (
+              eq-eqb x.client g.client client,
+              eq-eqb x.exit g.exit exit,
+              eq-eqb x.visit g.visit visit,
+              eq-eqb (x.name + m) (g.name + m) (omega arith),
+            ) refl)
       ]
 
   pub names-once : (name : ℕ) → times name (map (λ (g : Grant). g.name) v.grants) ≤ 1
@@ -68,7 +79,8 @@ module _ (start : Start) (s : FloorState) (kept : KeepsRule start s) (id : ℕ) 
         let its : g.name ≡ name = sym (get_or-map (λ (x : Grant). x.name) v.grants j no-grant 0 less) ∙ is in
         let same : times name names ≡ granted_in m g.client g.exit g.visit (g.name + m) v =
         times-map (λ (x : Grant). x.name) name v.grants
-        ∙ sum-by-same (λ (x : Grant). cond (eqb x.name name) 1 0) (λ (x : Grant). cond (is_same g x) 1 0) v.grants no-grant (λ k h. ap {B = ℕ} (λ b. cond b 1 0) (named-alike j k name less h its)) in
+        ∙ sum-by-same (λ (x : Grant). cond (eqb x.name name) 1 0) (λ (x : Grant). cond (is_same g x) 1 0) v.grants no-grant
+        (λ k h. ap {B = ℕ} (λ b. cond b 1 0) (named-alike j k name less h its)) in
         omega (
           arith,
           same,

@@ -23,7 +23,8 @@ module _ (t : Table) where
   none-entered u = ap (λ (k : ℕ). when (ltb u t.entries) k) (zero_at (word_count t) (1 + u)) ∙ nothing (ltb u t.entries)
 
   pub none-counted : (end : End) → count_in t zeros end ≡ 0
-  none-counted (Balancer b) = ap (λ (k : ℕ). when (ltb b t.balancers) k) (zero_at (word_count t) (end_word t (Balancer b))) ∙ nothing (ltb b t.balancers)
+  none-counted (Balancer b) = ap (λ (k : ℕ). when (ltb b t.balancers) k) (zero_at (word_count t) (end_word t (Balancer b)))
+      ∙ nothing (ltb b t.balancers)
   none-counted (Exit i) = ap (λ (k : ℕ). when (ltb i t.width) k) (zero_at (word_count t) (end_word t (Exit i))) ∙ nothing (ltb i t.width)
 
   none-below : (n : ℕ) → ◌≡◌ {A = ℕ} (once_below 0 n) 0
@@ -41,9 +42,11 @@ module _ (t : Table) where
     standing = λ u c. refl;
     given = λ end n. omega (arith, ap (λ (k : ℕ). once_below k n) (none-counted end), none-below n);
     granted = λ c i v name.
-        let none : ltb v (count_in t zeros (Exit i)) ≡ false = le-ltb v (count_in t zeros (Exit i)) (omega (arith, none-counted (Exit i))) in
+        let none : ltb v (count_in t zeros (Exit i)) ≡ false =
+        le-ltb v (count_in t zeros (Exit i)) (omega (arith, none-counted (Exit i))) in
         let one : when (eqb 0 c && (ltb v (count_in t zeros (Exit i)) && eqb (name_of t.width i v) name)) 1 ≡ 0 =
-        ap {B = ℕ} (λ b. when (eqb 0 c && (b && eqb (name_of t.width i v) name)) 1) none ∙ not-granted (eqb 0 c) (eqb (name_of t.width i v) name) in
+        ap {B = ℕ} (λ b. when (eqb 0 c && (b && eqb (name_of t.width i v) name)) 1) none
+        ∙ not-granted (eqb 0 c) (eqb (name_of t.width i v) name) in
         omega arith;
   }
 
@@ -105,7 +108,8 @@ module _ (start : Start) (quota : ℕ) where
   sum-one f none = omega (arith, sum_by-cons f v [])
 
   -- its ledger is that of the words
-  ledger-new : (words : List ℕ) → ledger_of start.network.table start.words words [] ≡ ledger_of start.network.table start.words words (v ∷ [])
+  ledger-new : (words : List ℕ) → ledger_of start.network.table start.words words []
+      ≡ ledger_of start.network.table start.words words (v ∷ [])
   ledger-new words = λ x. record {
     entered = entered_in start.network.table words;
     count = count_in start.network.table words;
@@ -135,9 +139,11 @@ begins start is = record {
 }
   where
     fresh-at : (id : ℕ) (v : View) → get_elem? (empty_view start start.quota ∷ []) id ≡ some v → IsFresh start start.words v
-    fresh-at zero v e = subst (λ (x : View). IsFresh start start.words x) (some-injective (empty_view start start.quota) v e) (fresh-new start start.quota start.words (omega arith))
+    fresh-at zero v e = subst (λ (x : View). IsFresh start start.words x) (some-injective (empty_view start start.quota) v e)
+        (fresh-new start start.quota start.words (omega arith))
     fresh-at (suc id) v e = absurd (some-ne-none v (sym e))
 
     account-at : (id : ℕ) (v : View) → get_elem? (empty_view start start.quota ∷ []) id ≡ some v → IsAccounted start.network v
-    account-at zero v e = subst (λ (x : View). IsAccounted start.network x) (some-injective (empty_view start start.quota) v e) (accounted-new start start.quota)
+    account-at zero v e = subst (λ (x : View). IsAccounted start.network x) (some-injective (empty_view start start.quota) v e)
+        (accounted-new start start.quota)
     account-at (suc id) v e = absurd (some-ne-none v (sym e))

@@ -27,7 +27,8 @@ module _ (c : Inside) (is : IsCounters c) where
 
   pub at-word : {slots id place i : ℕ} {me : Me (Unit {0}) View} (f : ℕ → ℕ) (then : ℕ → Me (Unit {0}) View → Type 0) → place ≡ c.stride * i
       → Allows (HoldsAt start) slots id me i f then → Allows Rule slots id me place f then
-  at-word {i = i} f then at allow = allows-at c.table.shared.key.stride some (HoldsAt start) f then (at ∙ ap (λ (n : ℕ). n * i) (sym is.apart)) allow
+  at-word {i = i} f then at allow = allows-at c.table.shared.key.stride some (HoldsAt start) f then
+      (at ∙ ap (λ (n : ℕ). n * i) (sym is.apart)) allow
 
   pub splits-at : {id : ℕ} {v left right : View} → Splits (HoldsAt start) id v left right → Splits Rule id v left right
   splits-at split = splits-spread c.table.shared.key.stride some (HoldsAt start) _ _ _ _ split

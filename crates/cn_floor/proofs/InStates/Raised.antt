@@ -32,33 +32,44 @@ module _ (t : Table) (words : List ℕ) (long : length words ≡ word_count t) w
       elim (cases_lt x n) [
         | inl l ↦
             elim (cases_eq x y) [
-              | inl e ↦ rw (lt-ltb x n l, eq-eqb x y e) (one_more-at words i j inside ∙ ap (λ b. get_or words j 0 + cond b 1 0) (eq-eqb j i (same e)))
-              | inr d ↦ rw (lt-ltb x n l, ne_eqb x y d) (one_more-at words i j inside ∙ ap (λ b. get_or words j 0 + cond b 1 0) (ne_eqb j i (λ e. d (distinct l e))))
+              | inl e ↦ rw (lt-ltb x n l, eq-eqb x y e)
+                  (one_more-at words i j inside ∙ ap (λ b. get_or words j 0 + cond b 1 0) (eq-eqb j i (same e)))
+              | inr d ↦ rw (lt-ltb x n l, ne_eqb x y d)
+                  (one_more-at words i j inside ∙ ap (λ b. get_or words j 0 + cond b 1 0) (ne_eqb j i (λ e. d (distinct l e))))
             ]
         | inr l ↦ rw (le-ltb x n l, ne_eqb x y (λ e. omega arith)) refl
       ]
 
   -- a word of others
-  unguarded : (i j n x : ℕ) → i < length words → (x < n → j ≢ i) → when (ltb x n) (get_or (raised words i) j 0) ≡ when (ltb x n) (get_or words j 0)
+  unguarded : (i j n x : ℕ) → i < length words → (x < n → j ≢ i)
+      → when (ltb x n) (get_or (raised words i) j 0) ≡ when (ltb x n) (get_or words j 0)
   unguarded i j n x inside distinct =
       elim (cases_lt x n) [
-        | inl l ↦ rw (lt-ltb x n l) (one_more-at words i j inside ∙ ap (λ b. get_or words j 0 + cond b 1 0) (ne_eqb j i (distinct l)) ∙ omega arith)
+        | inl l ↦ rw (lt-ltb x n l) (one_more-at words i j inside ∙ ap (λ b. get_or words j 0 + cond b 1 0) (ne_eqb j i (distinct l))
+            ∙ omega arith)
         | inr l ↦ rw (le-ltb x n l) refl
       ]
 
   -- an end's word rises
-  pub count-raised : (end other : End) → Stands t end → count_in t (raised words (end_word t end)) other ≡ count_in t words other + when (is_end end other) 1
-  count-raised (Balancer b) (Balancer c) h = guarded (end_word t (Balancer b)) (end_word t (Balancer c)) t.balancers c b (omega (arith, long)) (λ l e. omega arith) (λ e. omega arith) h
-  count-raised (Balancer b) (Exit j) h = unguarded (end_word t (Balancer b)) (end_word t (Exit j)) t.width j (omega (arith, long)) (λ l e. omega arith) ∙ omega arith
-  count-raised (Exit i) (Balancer c) h = unguarded (end_word t (Exit i)) (end_word t (Balancer c)) t.balancers c (omega (arith, long)) (λ l e. omega arith) ∙ omega arith
-  count-raised (Exit i) (Exit j) h = guarded (end_word t (Exit i)) (end_word t (Exit j)) t.width j i (omega (arith, long)) (λ l e. omega arith) (λ e. omega arith) h
+  pub count-raised : (end other : End) → Stands t end
+      → count_in t (raised words (end_word t end)) other ≡ count_in t words other + when (is_end end other) 1
+  count-raised (Balancer b) (Balancer c) h =
+      guarded (end_word t (Balancer b)) (end_word t (Balancer c)) t.balancers c b (omega (arith, long)) (λ l e. omega arith)
+      (λ e. omega arith) h
+  count-raised (Balancer b) (Exit j) h = unguarded (end_word t (Balancer b)) (end_word t (Exit j)) t.width j (omega (arith, long))
+      (λ l e. omega arith) ∙ omega arith
+  count-raised (Exit i) (Balancer c) h = unguarded (end_word t (Exit i)) (end_word t (Balancer c)) t.balancers c (omega (arith, long))
+      (λ l e. omega arith) ∙ omega arith
+  count-raised (Exit i) (Exit j) h = guarded (end_word t (Exit i)) (end_word t (Exit j)) t.width j i (omega (arith, long))
+      (λ l e. omega arith) (λ e. omega arith) h
 
   pub entered-kept : (end : End) → Stands t end → (u : ℕ) → entered_in t (raised words (end_word t end)) u ≡ entered_in t words u
   entered-kept (Balancer b) h u = unguarded (end_word t (Balancer b)) (1 + u) t.entries u (omega (arith, long)) (λ l e. omega arith)
   entered-kept (Exit i) h u = unguarded (end_word t (Exit i)) (1 + u) t.entries u (omega (arith, long)) (λ l e. omega arith)
 
   -- an entry's word rises
-  pub entered-raised : (entry : ℕ) → entry < t.entries → (u : ℕ) → entered_in t (raised words (1 + entry)) u ≡ entered_in t words u + one_at entry u
+  pub entered-raised : (entry : ℕ) → entry < t.entries → (u : ℕ)
+      → entered_in t (raised words (1 + entry)) u ≡ entered_in t words u + one_at entry u
   entered-raised entry h u =
       guarded (1 + entry) (1 + u) t.entries u entry (omega (arith, long)) (λ l e. omega arith) (λ e. omega arith) h
       ∙ ap (λ b. entered_in t words u + cond b 1 0) (turn u entry)

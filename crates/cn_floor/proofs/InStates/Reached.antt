@@ -6,7 +6,8 @@ use Rattle.cn_floor.specs.Rule.{IsReached}
 use Rattle.cn_ledger.proofs.CallerLemmas.{sound-enters, sound-leaves, sound-passes}
 
 -- one event more
-pub reached-by : (start : Start) (event : Event) (old new : Ledger) → IsReached start old → Happens start.network.table event old new → IsReached start new
+pub reached-by : (start : Start) (event : Event) (old new : Ledger) → IsReached start old → Happens start.network.table event old new
+    → IsReached start new
 unfolding LeadsTo
 reached-by start event old new (history, leads) happens = (event ∷ history, (old, leads, happens))
 

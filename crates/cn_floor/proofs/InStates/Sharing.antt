@@ -19,12 +19,14 @@ use Rattle.cn_spec.proofs.CallerLemmas.{times-append, times-nil}
 
 -- ---- split
 
-pub splits : (start : Start) (id q : ℕ) (v : View) → v.start ≡ start → v.loads ≡ [] → q ≤ v.quota → Splits (HoldsAt start) id v (after_split q v) (split_off q v)
+pub splits : (start : Start) (id q : ℕ) (v : View) → v.start ≡ start → v.loads ≡ [] → q ≤ v.quota
+    → Splits (HoldsAt start) id v (after_split q v) (split_off q v)
 splits start id q v of idle enough s kept at =
     let left : View = after_split q v in
     let right : View = split_off q v in
     let vs : List View = set s.views id left ++ right ∷ [] in
-    let sums : (f : View → ℕ) → f left ≡ f v → f right ≡ 0 → sum_by f s.views ≡ sum_by f vs = λ f e z. omega (arith, total-set f s.views id v left at, sum_by_push f (set s.views id left) right) in
+    let sums : (f : View → ℕ) → f left ≡ f v → f right ≡ 0 → sum_by f s.views ≡ sum_by f vs =
+    λ f e z. omega (arith, total-set f s.views id v left at, sum_by_push f (set s.views id left) right) in
     let alike : AddUpAlike (base start) s.views vs = record {
       on = λ u. sums (on_in u) refl (on-new v.start q u);
       standing = λ u c. sums (standing_in u c) refl (standing-new v.start q u c);
@@ -38,18 +40,27 @@ splits start id q v of idle enough s kept at =
     let f = kept.rule.accounted id v at in
     let g = kept.rule.fresh id v at in
     let new = subst (λ (n : Start). IsAccounted n.network (empty_view v.start q)) of (accounted-new v.start q) in
-    let all : load_bound start.network.table s.words v.loads ≡ clients_in start.network.table s.words = ap (λ (ls : List ℕ). load_bound start.network.table s.words ls) idle in
+    let all : load_bound start.network.table s.words v.loads ≡ clients_in start.network.table s.words =
+    ap (λ (ls : List ℕ). load_bound start.network.table s.words ls) idle in
     let accounted-left : IsAccounted start.network left = record { all = f.all; entries = f.entries; walked = f.walked } in
     let accounted-right : IsAccounted start.network right = record { all = new.all; entries = new.entries; walked = new.walked } in
     let fresh-left : IsFresh start s.words left = record { low = g.low; own = g.own; seen = g.seen; names = g.names } in
-    let fresh-right : IsFresh start s.words right = record { low = λ u. omega arith; own = omega (arith, all-came start s kept); seen = omega (arith, g.seen); names = λ k d less. absurd (omega arith) } in
+    let fresh-right : IsFresh start s.words right =
+    record {
+      low = λ u. omega arith;
+      own = omega (arith, all-came start s kept);
+      seen = omega (arith, g.seen);
+      names = λ k d less. absurd (omega arith);
+    } in
     kept_alike start s vs kept alike
     (λ j x e. ⊎_elim
-    (λ y. ⊎_elim (λ z. subst (λ (u : View). IsAccounted start.network u) z.1 accounted-left) (λ z. kept.rule.accounted j x z.1) (at_set s.views id j left x y))
+    (λ y. ⊎_elim (λ z. subst (λ (u : View). IsAccounted start.network u) z.1 accounted-left) (λ z. kept.rule.accounted j x z.1)
+    (at_set s.views id j left x y))
     (λ y. subst (λ (u : View). IsAccounted start.network u) y accounted-right)
     (at_snoc (set s.views id left) right x j e))
     (λ j x e. ⊎_elim
-    (λ y. ⊎_elim (λ z. subst (λ (u : View). IsFresh start s.words u) z.1 fresh-left) (λ z. kept.rule.fresh j x z.1) (at_set s.views id j left x y))
+    (λ y. ⊎_elim (λ z. subst (λ (u : View). IsFresh start s.words u) z.1 fresh-left) (λ z. kept.rule.fresh j x z.1)
+    (at_set s.views id j left x y))
     (λ y. subst (λ (u : View). IsFresh start s.words u) y fresh-right)
     (at_snoc (set s.views id left) right x j e))
   where
@@ -75,24 +86,31 @@ pub record IsSum (m : ℕ) (network : Network) (v w both : View) : Type 0 where
   pub loads : both.loads ≡ []
   pub accounted : IsAccounted network v → IsAccounted network w → IsAccounted network both
 
-pub granted-both : (v w both : View) → both.grants ≡ v.grants ++ w.grants → (m c i k name : ℕ) → granted_in m c i k name both ≡ granted_in m c i k name v + granted_in m c i k name w
+pub granted-both : (v w both : View) → both.grants ≡ v.grants ++ w.grants → (m c i k name : ℕ)
+    → granted_in m c i k name both ≡ granted_in m c i k name v + granted_in m c i k name w
 granted-both v w both is m c i k name =
-    ap (λ (gs : List Grant). sum_by (λ (g : Grant). cond (eqb g.client c && (eqb g.exit i && (eqb g.visit k && eqb (g.name + m) name))) 1 0) gs) is
-    ∙ sum_by-append (λ (g : Grant). cond (eqb g.client c && (eqb g.exit i && (eqb g.visit k && eqb (g.name + m) name))) 1 0) v.grants w.grants
+    ap (λ (gs : List Grant). sum_by (λ (g : Grant). cond (eqb g.client c && (eqb g.exit i && (eqb g.visit k && eqb (g.name + m) name))) 1 0)
+    gs) is
+    ∙ sum_by-append (λ (g : Grant). cond (eqb g.client c && (eqb g.exit i && (eqb g.visit k && eqb (g.name + m) name))) 1 0) v.grants
+    w.grants
 
 given-nobody : (end : End) (n : ℕ) → given_in end n nobody ≡ 0
 given-nobody (Balancer b) n = refl
 given-nobody (Exit i) n = refl
 
 -- two views may become what they are together
-pub joins-sum : (start : Start) (id other : ℕ) (v w both : View) → IsSum (base start) start.network v w both → v.loads ≡ [] → w.loads ≡ [] → Joins (HoldsAt start) id v other w both nobody
+pub joins-sum : (start : Start) (id other : ℕ) (v w both : View) → IsSum (base start) start.network v w both → v.loads ≡ [] → w.loads ≡ []
+    → Joins (HoldsAt start) id v other w both nobody
 joins-sum start id other v w both is idle idle' s kept at distinct at_other =
     let once : List View = set s.views id both in
     let vs : List View = set once other nobody in
-    let here : get_elem? s.views other ≡ some w = ⊎_elim (λ y. absurd (distinct y.0)) (λ y. y.1) (at_set s.views id other both w at_other) in
-    let two : (f : View → ℕ) → sum_by f vs + f v + f w ≡ sum_by f s.views + f both + f nobody = λ f. omega (arith, total-set f s.views id v both at, total-set f once other w nobody at_other) in
+    let here : get_elem? s.views other ≡ some w =
+    ⊎_elim (λ y. absurd (distinct y.0)) (λ y. y.1) (at_set s.views id other both w at_other) in
+    let two : (f : View → ℕ) → sum_by f vs + f v + f w ≡ sum_by f s.views + f both + f nobody =
+    λ f. omega (arith, total-set f s.views id v both at, total-set f once other w nobody at_other) in
     let sums : (f : View → ℕ) → f both ≡ f v + f w → f nobody ≡ 0 → sum_by f s.views ≡ sum_by f vs = λ f e z. omega (arith, two f) in
-    let many : length both.entries ≡ length v.entries + length w.entries = ap (λ (es : List ℕ). length es) is.entries ∙ length-append v.entries w.entries in
+    let many : length both.entries ≡ length v.entries + length w.entries =
+    ap (λ (es : List ℕ). length es) is.entries ∙ length-append v.entries w.entries in
     let alike : AddUpAlike (base start) s.views vs = record {
       on = λ u. sums (on_in u) (is.on u) refl;
       standing = λ u c. sums (standing_in u c) (is.standing u c) refl;
@@ -108,18 +126,22 @@ joins-sum start id other v w both is idle idle' s kept at distinct at_other =
     let all' : load_bound t s.words w.loads ≡ clients_in t s.words = ap (λ (ls : List ℕ). load_bound t s.words ls) idle' in
     let all-both : load_bound t s.words both.loads ≡ clients_in t s.words = ap (λ (ls : List ℕ). load_bound t s.words ls) is.loads in
     let entries : length v.entries + length w.entries ≤ sum_by (λ (x : View). length x.entries) s.views =
-    let part = part-le (λ (x : View). length x.entries) (set s.views id nobody) other w (set_else s.views id other nobody distinct ∙ here) in
+    let part = part-le (λ (x : View). length x.entries) (set s.views id nobody) other w
+    (set_else s.views id other nobody distinct ∙ here) in
     omega (arith, total-set (λ (x : View). length x.entries) s.views id v nobody at) in
     let came = all-came start s kept in
     let names : All (λ (x : Grant). base start + x.name < clients_in t s.words) (v.grants ++ w.grants) =
-    All-append (λ (x : Grant). base start + x.name < clients_in t s.words) v.grants w.grants (λ k d less. let n = g.names k d less in omega (arith, n)) (λ k d less. let n = h.names k d less in omega (arith, n)) in
+    All-append (λ (x : Grant). base start + x.name < clients_in t s.words) v.grants w.grants
+    (λ k d less. let n = g.names k d less in omega (arith, n)) (λ k d less. let n = h.names k d less in omega (arith, n)) in
     let fresh-both : IsFresh start s.words both = record {
       low = λ u. omega (arith, ap (λ (ls : List ℕ). get_or ls u 0) is.loads);
       own = omega (arith, many);
       seen = omega (arith, is.seen, g.seen, h.seen);
-      names = subst (λ (x : ℕ × List Grant). All (λ (y : Grant). base start + y.name < x.0) x.1) (λ x. (sym all-both x, sym is.grants x)) names;
+      names = subst (λ (x : ℕ × List Grant). All (λ (y : Grant). base start + y.name < x.0) x.1) (λ x. (sym all-both x, sym is.grants x))
+          names;
     } in
-    let fresh-spent : IsFresh start s.words nobody = record { low = λ u. omega arith; own = omega arith; seen = omega arith; names = λ k d less. absurd (omega arith) } in
+    let fresh-spent : IsFresh start s.words nobody =
+    record { low = λ u. omega arith; own = omega arith; seen = omega arith; names = λ k d less. absurd (omega arith) } in
     let accounted-spent : IsAccounted start.network nobody = record {
       all = omega (arith, sum-below-zero 0 (λ _. 0) (λ _. refl));
       entries = λ k d less. absurd (omega arith);
@@ -128,11 +150,14 @@ joins-sum start id other v w both is idle idle' s kept at distinct at_other =
     kept_alike start s vs kept alike
     (λ j x e. ⊎_elim
     (λ y. subst (λ (u : View). IsAccounted start.network u) y.1 accounted-spent)
-    (λ y. ⊎_elim (λ z. subst (λ (u : View). IsAccounted start.network u) z.1 (is.accounted (kept.rule.accounted id v at) (kept.rule.accounted other w here))) (λ z. kept.rule.accounted j x z.1) (at_set s.views id j both x y.1))
+    (λ y. ⊎_elim (λ z. subst (λ (u : View). IsAccounted start.network u) z.1
+    (is.accounted (kept.rule.accounted id v at) (kept.rule.accounted other w here))) (λ z. kept.rule.accounted j x z.1)
+    (at_set s.views id j both x y.1))
     (at_set once other j nobody x e))
     (λ j x e. ⊎_elim
     (λ y. subst (λ (u : View). IsFresh start s.words u) y.1 fresh-spent)
-    (λ y. ⊎_elim (λ z. subst (λ (u : View). IsFresh start s.words u) z.1 fresh-both) (λ z. kept.rule.fresh j x z.1) (at_set s.views id j both x y.1))
+    (λ y. ⊎_elim (λ z. subst (λ (u : View). IsFresh start s.words u) z.1 fresh-both) (λ z. kept.rule.fresh j x z.1)
+    (at_set s.views id j both x y.1))
     (at_set once other j nobody x e))
 
 -- the lane has no tokens
@@ -155,8 +180,10 @@ module _ (v w : View) (idle : v.loads ≡ []) (out : Empty w) where
         all = omega (arith, f.all, g.all, length-append v.entries w.entries, length-append v.grants w.grants);
         entries = All-append (λ (u : ℕ). u < network.table.entries) v.entries w.entries f.entries g.entries;
         walked = λ level is.
-            let none : levels_in level w ≡ 0 = sum-below-zero (length w.tokens) (λ u. level u * on_in u w) (λ u. ap (λ (k : ℕ). level u * k) (out u) ∙ omega arith) in
-            let more : network.depth * length (v.grants ++ w.grants) ≡ network.depth * (length v.grants + length w.grants) = ap (λ (k : ℕ). network.depth * k) (length-append v.grants w.grants) in
+            let none : levels_in level w ≡ 0 = sum-below-zero (length w.tokens) (λ u. level u * on_in u w)
+            (λ u. ap (λ (k : ℕ). level u * k) (out u) ∙ omega arith) in
+            let more : network.depth * length (v.grants ++ w.grants) ≡ network.depth * (length v.grants + length w.grants) =
+            ap (λ (k : ℕ). network.depth * k) (length-append v.grants w.grants) in
             omega (arith, f.walked level is, g.walked level is, length-append v.passages w.passages);
       }
 
@@ -173,8 +200,10 @@ module _ (v w : View) (idle : v.loads ≡ []) (out : Empty w) where
     accounted = accounted-after-join network;
   }
 
-pub joins : (start : Start) (id other : ℕ) (v w : View) → v.loads ≡ [] → w.loads ≡ [] → Empty w → Joins (HoldsAt start) id v other w (after_join v w) nobody
-joins start id other v w idle idle' out = joins-sum start id other v w (after_join v w) (sum-after-join v w idle out (base start) start.network) idle idle'
+pub joins : (start : Start) (id other : ℕ) (v w : View) → v.loads ≡ [] → w.loads ≡ [] → Empty w
+    → Joins (HoldsAt start) id v other w (after_join v w) nobody
+joins start id other v w idle idle' out =
+    joins-sum start id other v w (after_join v w) (sum-after-join v w idle out (base start) start.network) idle idle'
 
 -- ---- look
 
@@ -191,13 +220,17 @@ looks start slots id i word me is first same no_slot s kept homes at fits =
       w,
       keeps,
       tt,
-      subst (λ (x : List ℕ). HoldsAt start record { words = x; homes = s.homes; views = set s.views id w }) (sym (set-get_or s.words i 0)) after,
+      subst (λ (x : List ℕ). HoldsAt start record { words = x; homes = s.homes; views = set s.views id w }) (sym (set-get_or s.words i 0))
+          after,
       (
         first,
         no_slot,
         subst (λ (z : Start). Looks z v w) (sym same) (
           refl,
-          (record { words = s.words; homes = s.homes; views = set s.views id w }, record { id = id; here = get-here s.views id v w at; kept = after.rule }),
+          (
+            record { words = s.words; homes = s.homes; views = set s.views id w },
+            record { id = id; here = get-here s.views id v w at; kept = after.rule },
+          ),
           omega (arith, f.all, kept.rule.quotas),
         ),
       ),

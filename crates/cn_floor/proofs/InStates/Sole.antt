@@ -18,7 +18,8 @@ below-once zero c h = omega arith
 below-once (suc n) c h = elim (cases_lt n c) [
   | inl l ↦
       let e : c ≡ suc n = omega arith in
-      let rest = sum-below-same n (once_below c) (once_below n) (λ u k. ap {B = ℕ} (λ b. cond b 1 0) (lt-ltb u c (omega arith) ∙ sym (lt-ltb u n k))) in
+      let rest = sum-below-same n (once_below c) (once_below n)
+      (λ u k. ap {B = ℕ} (λ b. cond b 1 0) (lt-ltb u c (omega arith) ∙ sym (lt-ltb u n k))) in
       let here : ◌≡◌ {A = ℕ} (once_below c n) 1 = ap {B = ℕ} (λ b. cond b 1 0) (lt-ltb n c l) in
       omega (arith, below-once n n (omega arith))
   | inr l ↦
@@ -74,10 +75,16 @@ module _ (start : Start) (s : State (Unit {0}) View) (kept : HoldsAt start s) wh
       let n : ℕ = count_in t s.words end in
       let c : ℕ = count_in t start.words end in
       let mine : sum_by (λ (x : View). length x.entries) s.views ≡ length v.entries =
-      mine-only (λ (x : View). length x.entries) (λ (x : View). x.quota + length x.entries) s.views id v at (λ j x a z. omega arith) (kept.rule.quotas ∙ sym whole) in
+      mine-only (λ (x : View). length x.entries) (λ (x : View). x.quota + length x.entries) s.views id v at (λ j x a z. omega arith)
+      (kept.rule.quotas ∙ sym whole) in
       let each : (k : ℕ) → once_below c k + given_in end k v ≡ once_below n k = λ k.
       let all = mine-only (given_in end k) (λ (x : View). length x.entries) s.views id v at (λ j x a z. none_given j x a z end k) mine in
       omega (arith, kept.rule.sound.numbered end k stands) in
       let low = own end v n (λ k h. once-in n k (omega (arith, each k))) in
       let sums = sum-below-same n (λ k. once_below c k + given_in end k v) (once_below n) (λ k l. each k) in
-      omega (arith, sum-below-plus n (once_below c) (λ k. given_in end k v), below-once n n (omega arith), below-once n c (count-risen start s kept end stands))
+      omega (
+        arith,
+        sum-below-plus n (once_below c) (λ k. given_in end k v),
+        below-once n n (omega arith),
+        below-once n c (count-risen start s kept end stands),
+      )

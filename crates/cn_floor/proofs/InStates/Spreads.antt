@@ -10,7 +10,8 @@ use Rattle.cn_floor.specs.Spread.{HoldsSpread, picked}
 
 get-past : (g j : ℕ) (xs : List ℕ) → get_or (replicate g 0 ++ xs) (g + j) 0 ≡ get_or xs j 0
 get-past zero j xs = ap (λ (n : ℕ). get_or xs n 0) (omega arith)
-get-past (suc g) j xs = let later : suc g + j ≡ suc (g + j) = omega arith in ap (λ (n : ℕ). get_or (0 ∷ (replicate g 0 ++ xs)) n 0) later ∙ get-past g j xs
+get-past (suc g) j xs = let later : suc g + j ≡ suc (g + j) = omega arith in
+    ap (λ (n : ℕ). get_or (0 ∷ (replicate g 0 ++ xs)) n 0) later ∙ get-past g j xs
 
 set-past : (g j n : ℕ) (xs : List ℕ) → set (replicate g 0 ++ xs) (g + j) n ≡ replicate g 0 ++ set xs j n
 set-past zero j n xs = ap (λ (m : ℕ). set xs m n) (omega arith)
@@ -55,7 +56,13 @@ module _ (stride : ℕ) (some-stride : 1 ≤ stride) where
   pub length-spread : (words : List ℕ) → length (spread stride words) ≡ stride * length words
   length-spread [] = sym none
   length-spread (w ∷ ws) =
-      omega (arith, length-append (replicate between 0) (spread stride ws), length-replicate {A = ℕ} between 0, length-spread ws, next (length ws))
+      omega (
+        arith,
+        length-append (replicate between 0) (spread stride ws),
+        length-replicate {A = ℕ} between 0,
+        length-spread ws,
+        next (length ws),
+      )
 
   pub picked-spread : (words : List ℕ) → picked stride 0 (spread stride words) ≡ words
   picked-spread [] = refl
@@ -70,12 +77,14 @@ module _ (stride : ℕ) (some-stride : 1 ≤ stride) where
     allows-spread slots id me i f then allow s kept homes at fits =
         let words : List ℕ = kept.0 in
         let s' : State S V = record { words = words; homes = s.homes; views = s.views } in
-        let found : get_or words i 0 ≡ get_or s.words (stride * i) 0 = sym (ap (λ (ws : List ℕ). get_or ws (stride * i) 0) kept.1 ∙ get-spread words i) in
+        let found : get_or words i 0 ≡ get_or s.words (stride * i) 0 =
+        sym (ap (λ (ws : List ℕ). get_or ws (stride * i) 0) kept.1 ∙ get-spread words i) in
         let may = allow s' kept.2 homes at (subst (λ (n : ℕ). n < 18446744073709551616) (sym found) fits) in
         let put : set s.words (stride * i) (f (get_or words i 0)) ≡ spread stride (set words i (f (get_or words i 0))) =
         ap (λ (ws : List ℕ). set ws (stride * i) (f (get_or words i 0))) kept.1 ∙ set-spread words i (f (get_or words i 0)) in
         subst
-        (λ (n : ℕ). (w : V) × (a : Act S) × Valid s.homes me.1 a × HoldsSpread stride holds (stepped s (stride * i) (f n) id me.1 w a) × then n (w, carried_after me.1 a))
+        (λ (n : ℕ). (w : V) × (a : Act S) × Valid s.homes me.1 a × HoldsSpread stride holds (stepped s (stride * i) (f n) id me.1 w a)
+        × then n (w, carried_after me.1 a))
         found
         (may.0, may.1, may.2, (set words i (f (get_or words i 0)), put, may.3), may.4)
 

@@ -30,7 +30,8 @@ moved-by : (start : Start) (old new : Ledger) (c u : ℕ) (end : End) → GoesFr
 moved-by start old new c u (Balancer b) goes later = (u, goes, refl, refl)
 moved-by start old new c u (Exit i) goes later = (u, goes, refl, let l = later i refl in omega arith)
 
-module _ (start : Start) (id token client wire : ℕ) (end : End) (v : View) (s : State (Unit {0}) View) (kept : HoldsAt start s) (here : get_elem? s.views id ≡ some v)
+module _ (start : Start) (id token client wire : ℕ) (end : End) (v : View) (s : State (Unit {0}) View) (kept : HoldsAt start s)
+    (here : get_elem? s.views id ≡ some v)
     (of : v.start ≡ start) (is : IsThere v.tokens token client wire) (wires : length v.tokens ≡ length start.network.table.ends)
     (ends : end_of start.network.table wire ≡ end) (stands : Stands start.network.table end) where
   abbrev t : Table
@@ -63,14 +64,16 @@ module _ (start : Start) (id token client wire : ℕ) (end : End) (v : View) (s 
   lands-at (Exit i) q = tt
 
   went-at : (e : End) → e ≡ end
-      → GoesFrom t was (ledger_of t start.words (raised s.words (end_word t e)) (set s.views id (after_step token client e (count_in t s.words e) v))) client wire e
+      → GoesFrom t was (ledger_of t start.words (raised s.words (end_word t e))
+      (set s.views id (after_step token client e (count_in t s.words e) v))) client wire e
   went-at (Balancer b) q =
       let low : b < t.balancers = subst (Stands t) (sym q) stands in
       let all = kept.began.network.formed.wires in
       passes start s.words s.views id v kept.rule.words here of token client wire b is there (ends ∙ sym q) low (omega arith)
   went-at (Exit i) q =
       let low : i < t.width = subst (Stands t) (sym q) stands in
-      leaves start s.words s.views id v kept.rule.words here of token client wire i is there (ends ∙ sym q) low (name-later start s kept i low)
+      leaves start s.words s.views id v kept.rule.words here of token client wire i is there (ends ∙ sym q) low
+      (name-later start s kept i low)
 
   pub went : GoesFrom t was now client wire end
   went = went-at end refl
@@ -90,10 +93,12 @@ module _ (start : Start) (id token client wire : ℕ) (end : End) (v : View) (s 
   name-low i q =
       let low : i < t.width = subst (Stands t) q stands in
       let net = kept.began.network in
-      let risen : count_in t next.words end ≡ n + 1 = count-raised t s.words kept.rule.words end end stands ∙ ap (λ b. n + cond b 1 0) (end-self end) in
+      let risen : count_in t next.words end ≡ n + 1 =
+      count-raised t s.words kept.rule.words end end stands ∙ ap (λ b. n + cond b 1 0) (end-self end) in
       let there_at : count_in t next.words (Exit i) ≡ n + 1 = ap (λ (e : End). count_in t next.words e) (sym q) ∙ risen in
       let given : now.given (Exit i) n ≡ once_below (count_in t next.words (Exit i)) n = sound-now.numbered (Exit i) n low in
-      let one : ◌≡◌ {A = ℕ} (once_below (count_in t next.words (Exit i)) n) 1 = ap {B = ℕ} (λ b. cond b 1 0) (lt-ltb n (count_in t next.words (Exit i)) (omega arith)) in
+      let one : ◌≡◌ {A = ℕ} (once_below (count_in t next.words (Exit i)) n) 1 =
+      ap {B = ℕ} (λ b. cond b 1 0) (lt-ltb n (count_in t next.words (Exit i)) (omega arith)) in
       (bounded t net.formed net.counts now sound-now).visits i n low (omega arith)
 
   fresh-after_step : v.loads ≡ [] → (e : End) → e ≡ end → IsFresh start next.words (after_step token client e n v)
@@ -107,13 +112,15 @@ module _ (start : Start) (id token client wire : ℕ) (end : End) (v : View) (s 
       let later : base start ≤ name_of t.width i (count_in t s.words (Exit i)) = name-later start s kept i low in
       let same : count_in t s.words (Exit i) ≡ n = ap (λ (e : End). count_in t s.words e) q in
       let named : base start ≤ name_of t.width i n = subst (λ (k : ℕ). base start ≤ name_of t.width i k) same later in
-      let name : name_of v.start.network.table.width i n - base v.start ≡ name_of t.width i n - base start = ap (λ (z : Start). name_of z.network.table.width i n - base z) of in
+      let name : name_of v.start.network.table.width i n - base v.start ≡ name_of t.width i n - base start =
+      ap (λ (z : Start). name_of z.network.table.width i n - base z) of in
       record {
         low = f.low;
         own = f.own;
         seen = f.seen;
         names = All-push (λ (g : Grant). base start + g.name < load_bound t next.words v.loads) v.grants
-            (record { client = client; exit = i; visit = n; name = name_of v.start.network.table.width i n - base v.start }) f.names (omega (arith, name-low i (sym q)));
+            (record { client = client; exit = i; visit = n; name = name_of v.start.network.table.width i n - base v.start }) f.names
+            (omega (arith, name-low i (sym q)));
       }
 
   pub kept-after_step : v.loads ≡ [] → HoldsAt start next
@@ -129,7 +136,9 @@ module _ (start : Start) (id token client wire : ℕ) (end : End) (v : View) (s 
           let same : times u then.entries ≡ times u v.entries = ap (λ (es : List ℕ). times u es) (quota-same end n).1 in
           omega (arith, entered-kept t s.words kept.rule.words end stands u, kept.rule.entered u l);
       accounted = λ i x e. ⊎_elim
-          (λ y. subst (λ (z : View). IsAccounted start.network z) y.1 (accounted-after_step start.network token client wire n v is there (ap (λ (z : Start). z.network) of) end ends (lands-at end refl) (kept.rule.accounted id v here)))
+          (λ y. subst (λ (z : View). IsAccounted start.network z) y.1
+          (accounted-after_step start.network token client wire n v is there (ap (λ (z : Start). z.network) of) end ends
+          (lands-at end refl) (kept.rule.accounted id v here)))
           (λ y. kept.rule.accounted i x y.1)
           (at_set s.views id i then x e);
       fresh = λ i x e. ⊎_elim
@@ -145,7 +154,8 @@ module _ (start : Start) (id token client wire : ℕ) (end : End) (v : View) (s 
 
   pub let-by : v.loads ≡ [] → IsLetBy start v then client end n
   let-by idle = record {
-    step = one-step start s next.words id v then (λ old new. IsMoveOf start.network.table (base start) old new client (answer_at start end n)) here
+    step = one-step start s next.words id v then
+        (λ old new. IsMoveOf start.network.table (base start) old new client (answer_at start end n)) here
         kept.rule (kept-after_step idle).rule (moved-by start was now client wire end went later-at);
     few = omega (arith, count-few start s kept end stands, few-came start s kept);
     sole = λ whole. sole start s kept id v here whole end stands;
@@ -157,10 +167,12 @@ module _ (start : Start) (id token client wire : ℕ) (end : End) (v : View) (s 
           subst (λ (e : End). base start ≤ name_of t.width i (count_in t s.words e)) (sym q) (name-later start s kept i low)
 
 -- a token may go on
-pub lets-on : (start : Start) (slots id : ℕ) (me : Me (Unit {0}) View) (is : Going) → is.start ≡ start → me.1 ≡ [] → me.0.loads ≡ [] → me.0.start ≡ start
+pub lets-on : (start : Start) (slots id : ℕ) (me : Me (Unit {0}) View) (is : Going) → is.start ≡ start → me.1 ≡ [] → me.0.loads ≡ []
+    → me.0.start ≡ start
     → IsThere me.0.tokens is.token is.client is.wire → length me.0.tokens ≡ length start.network.table.ends
     → end_of start.network.table is.wire ≡ is.end → Stands start.network.table is.end
-    → Allows (HoldsAt start) slots id me (end_word start.network.table is.end) (λ n. (n + 1) % 2 ^ 64) (λ n new. (new.1 ≡ []) × GoesOn is me.0 n new.0)
+    → Allows (HoldsAt start) slots id me (end_word start.network.table is.end) (λ n. (n + 1) % 2 ^ 64)
+    (λ n new. (new.1 ≡ []) × GoesOn is me.0 n new.0)
 lets-on start slots id me is same no_slot idle of on_it wires ends stands s kept homes at fits =
     let t : Table = start.network.table in
     let v : View = me.0 in
@@ -177,17 +189,30 @@ lets-on start slots id me is same no_slot idle of on_it wires ends stands s kept
       keeps,
       tt,
       subst (λ (x : ℕ). HoldsAt start (stepped s (end_word t is.end) x id me.1 (to n) keeps)) no_wrap
-          (subst (λ (m : ℕ). HoldsAt start (record { words = raised s.words (end_word t is.end); homes = s.homes; views = set s.views id (to m) })) count old),
-      (no_slot, (refl, subst (λ (z : Start). IsLetBy z v (to n) is.client is.end n) (sym same) (subst (λ (m : ℕ). IsLetBy start v (to m) is.client is.end m) count all))),
+          (subst (λ (m : ℕ). HoldsAt start (record
+          { words = raised s.words (end_word t is.end); homes = s.homes; views = set s.views id (to m) })) count old),
+      (
+        no_slot,
+        (
+          refl,
+          subst (λ (z : Start). IsLetBy z v (to n) is.client is.end n) (sym same)
+              (subst (λ (m : ℕ). IsLetBy start v (to m) is.client is.end m) count all),
+        ),
+      ),
     )
 
 -- the same, with the word and the steps' marks as different places
 pub lets-on-by : (start : Start) (slots id : ℕ) (me : Me (Unit {0}) View) (is : Going) (token client wire : ℕ) (end : End) (word : ℕ)
-    → is ≡ record { start = start; token = token; client = client; wire = wire; end = end } → word ≡ end_word start.network.table end → me.1 ≡ [] → me.0.loads ≡ [] → me.0.start ≡ start
+    → is ≡ record { start = start; token = token; client = client; wire = wire; end = end } → word ≡ end_word start.network.table end
+    → me.1 ≡ [] → me.0.loads ≡ [] → me.0.start ≡ start
     → IsThere me.0.tokens token client wire → length me.0.tokens ≡ length start.network.table.ends
     → end_of start.network.table wire ≡ end → Stands start.network.table end
     → Allows (HoldsAt start) slots id me word (λ n. (n + 1) % 2 ^ 64) (λ n new. (new.1 ≡ []) × GoesOn is me.0 n new.0)
 lets-on-by start slots id me is token client wire end word by at no_slot idle of on_it wires ends stands =
-    subst (λ (x : Going). Allows (HoldsAt start) slots id me word (λ n. (n + 1) % 2 ^ 64) (λ n new. (new.1 ≡ []) × GoesOn x me.0 n new.0)) (sym by)
-    (subst (λ (k : ℕ). Allows (HoldsAt start) slots id me k (λ n. (n + 1) % 2 ^ 64) (λ n new. (new.1 ≡ []) × GoesOn (record { start = start; token = token; client = client; wire = wire; end = end }) me.0 n new.0)) (sym at)
-    (lets-on start slots id me (record { start = start; token = token; client = client; wire = wire; end = end }) refl no_slot idle of on_it wires ends stands))
+    subst (λ (x : Going). Allows (HoldsAt start) slots id me word (λ n. (n + 1) % 2 ^ 64) (λ n new. (new.1 ≡ []) × GoesOn x me.0 n new.0))
+    (sym by)
+    (subst (λ (k : ℕ). Allows (HoldsAt start) slots id me k (λ n. (n + 1) % 2 ^ 64)
+    (λ n new. (new.1 ≡ []) × GoesOn (record { start = start; token = token; client = client; wire = wire; end = end }) me.0 n new.0))
+    (sym at)
+    (lets-on start slots id me (record { start = start; token = token; client = client; wire = wire; end = end }) refl no_slot idle of on_it
+    wires ends stands))

@@ -38,11 +38,13 @@ module _ (start : Start) (wire : ℕ) (end : End) (formed : IsWellFormed start.n
     pub wires : length v.tokens ≡ length t.ends
     pub of : v.start ≡ start
 
-  pub goes-there : (v : View) (token client : ℕ) (rest : List (ℕ × ℕ)) → MayGo v ((token, client) ∷ rest) → IsThere v.tokens token client wire
+  pub goes-there : (v : View) (token client : ℕ) (rest : List (ℕ × ℕ)) → MayGo v ((token, client) ∷ rest)
+      → IsThere v.tokens token client wire
   goes-there v token client rest may = first-there v.tokens token client wire rest may.once (omega (arith, low, may.wires)) may.on_wire
 
   -- once the first has gone
-  gone-on : (b n : ℕ) → end ≡ Balancer b → (v : View) (token client : ℕ) (rest : List (ℕ × ℕ)) → MayGo v ((token, client) ∷ rest) → MayGo (after_step token client (Balancer b) n v) rest
+  gone-on : (b n : ℕ) → end ≡ Balancer b → (v : View) (token client : ℕ) (rest : List (ℕ × ℕ)) → MayGo v ((token, client) ∷ rest)
+      → MayGo (after_step token client (Balancer b) n v) rest
   gone-on b n is v token client rest may =
       let to : ℕ = output_wire v.start.network.table b (n % 2) in
       let same : to ≡ output_wire t b (n % 2) = ap (λ (s : Start). output_wire s.network.table b (n % 2)) may.of in
@@ -51,17 +53,20 @@ module _ (start : Start) (wire : ℕ) (end : End) (formed : IsWellFormed start.n
       let there : b < t.balancers = subst (Stands t) is stands in
       let inside : wire < length v.tokens = omega (arith, low, may.wires) in
       let lands : to < length v.tokens = omega (arith, same, there, formed.wires, may.wires) in
-      let lists = lists-after-on v.tokens token (last_on token client to) (λ u past. rw (ne_eqb to u (λ e. omega (arith, e, past, lands))) refl) in
+      let lists = lists-after-on v.tokens token (last_on token client to)
+      (λ u past. rw (ne_eqb to u (λ e. omega (arith, e, past, lands))) refl) in
       let long = length-map-range_with_len (λ u. without token (on v.tokens u) ++ last_on token client to u) 0 (length v.tokens) in
       let none : last_on token client to wire ≡ [] = rw (ne_eqb to wire (λ e. omega (arith, e, same, forward))) refl in
       record {
         on_wire = lists wire ∙ (λ i. rest-on v.tokens token client wire rest may.once inside may.on_wire i ++ none i) ∙ append-nil rest;
-        once = λ k. once-moved v.tokens token client wire rest may.once inside may.on_wire (after_step token client (Balancer b) n v).tokens long k to lands lists;
+        once = λ k. once-moved v.tokens token client wire rest may.once inside may.on_wire (after_step token client (Balancer b) n v).tokens
+            long k to lands lists;
         wires = long ∙ may.wires;
         of = may.of;
       }
 
-  gone-out : (i n : ℕ) (v : View) (token client : ℕ) (rest : List (ℕ × ℕ)) → MayGo v ((token, client) ∷ rest) → MayGo (after_step token client (Exit i) n v) rest
+  gone-out : (i n : ℕ) (v : View) (token client : ℕ) (rest : List (ℕ × ℕ)) → MayGo v ((token, client) ∷ rest)
+      → MayGo (after_step token client (Exit i) n v) rest
   gone-out i n v token client rest may =
       let inside : wire < length v.tokens = omega (arith, low, may.wires) in
       let lists : (u : ℕ) → on (lists_after token (λ _. []) v.tokens) u ≡ without token (on v.tokens u) =
@@ -69,12 +74,14 @@ module _ (start : Start) (wire : ℕ) (end : End) (formed : IsWellFormed start.n
       let long = length-map-range_with_len (λ u. without token (on v.tokens u) ++ []) 0 (length v.tokens) in
       record {
         on_wire = lists wire ∙ rest-on v.tokens token client wire rest may.once inside may.on_wire;
-        once = λ k. once-gone v.tokens token client wire rest may.once inside may.on_wire (after_step token client (Exit i) n v).tokens long k lists;
+        once = λ k. once-gone v.tokens token client wire rest may.once inside may.on_wire (after_step token client (Exit i) n v).tokens long
+            k lists;
         wires = long ∙ may.wires;
         of = may.of;
       }
 
-  pub rest-may : (n : ℕ) (v : View) (token client : ℕ) (rest : List (ℕ × ℕ)) → MayGo v ((token, client) ∷ rest) → MayGo (after_step token client end n v) rest
+  pub rest-may : (n : ℕ) (v : View) (token client : ℕ) (rest : List (ℕ × ℕ)) → MayGo v ((token, client) ∷ rest)
+      → MayGo (after_step token client end n v) rest
   rest-may n v token client rest may = by end refl
     where
       by : (e : End) → end ≡ e → MayGo (after_step token client e n v) rest
@@ -106,7 +113,8 @@ module _ (start : Start) (wire : ℕ) (end : End) (formed : IsWellFormed start.n
     abbrev with_view : State (Unit {0}) View → View → State (Unit {0}) View
     with_view s v = record { words = s.words; homes = s.homes; views = set s.views id v }
 
-    all-after-steps : (tokens : List (ℕ × ℕ)) (s : State (Unit {0}) View) (v : View) (n : ℕ) → HoldsAt start s → get_elem? s.views id ≡ some v → MayGo v tokens → v.loads ≡ [] → count_in t s.words end ≡ n
+    all-after-steps : (tokens : List (ℕ × ℕ)) (s : State (Unit {0}) View) (v : View) (n : ℕ) → HoldsAt start s
+        → get_elem? s.views id ≡ some v → MayGo v tokens → v.loads ≡ [] → count_in t s.words end ≡ n
         → Gone s v n tokens
     unfolding after_steps GoInTurn
     all-after-steps [] s v n kept here may idle count =
@@ -128,15 +136,23 @@ module _ (start : Start) (wire : ℕ) (end : End) (formed : IsWellFormed start.n
         let kept_m = kept-after_step start id token client wire end v s kept here may.of is may.wires ends stands idle in
         let went_m = went start id token client wire end v s kept here may.of is may.wires ends stands in
         let kept_n : HoldsAt start (record { words = raise; homes = s.homes; views = set s.views id then }) =
-        subst (λ (k : ℕ). HoldsAt start (record { words = raise; homes = s.homes; views = set s.views id (after_step token client end k v) })) count kept_m in
+        subst (λ (k : ℕ). HoldsAt start (record {
+          words = raise;
+          homes = s.homes;
+          views = set s.views id (after_step token client end k v);
+        })) count kept_m in
         let went_n : GoesFrom t (ledger s) (ledger_of t start.words raise (set s.views id then)) client wire end =
-        subst (λ (k : ℕ). GoesFrom t (ledger s) (ledger_of t start.words raise (set s.views id (after_step token client end k v))) client wire end) count went_m in
+        subst (λ (k : ℕ). GoesFrom t (ledger s) (ledger_of t start.words raise (set s.views id (after_step token client end k v))) client
+        wire end) count went_m in
         let more : count_in t raise end ≡ n + 1 =
         count-raised t s.words kept.rule.words end end stands ∙ ap (λ b. m + cond b 1 0) (end-self end) ∙ ap (λ (k : ℕ). k + 1) count in
-        let later = all-after-steps rest (record { words = raise; homes = s.homes; views = set s.views id then }) then (n + 1) kept_n (get-here s.views id v then here) (rest-may n v token client rest may) (still-idle n token client v idle) more in
-        let views : set (set s.views id then) id (after_steps end (n + 1) rest then) ≡ set s.views id (after_steps end (n + 1) rest then) = set-set s.views id then (after_steps end (n + 1) rest then) in
+        let later = all-after-steps rest (record { words = raise; homes = s.homes; views = set s.views id then }) then (n + 1) kept_n
+        (get-here s.views id v then here) (rest-may n v token client rest may) (still-idle n token client v idle) more in
+        let views : set (set s.views id then) id (after_steps end (n + 1) rest then) ≡ set s.views id (after_steps end (n + 1) rest then) =
+        set-set s.views id then (after_steps end (n + 1) rest then) in
         let inside : word < length s.words = omega (arith, kept.rule.words, end-there t end stands) in
-        let raise_at : get_or raise word 0 ≡ get_or s.words word 0 + 1 = get_or-set_same s.words word (get_or s.words word 0 + 1) 0 inside in
+        let raise_at : get_or raise word 0 ≡ get_or s.words word 0 + 1 =
+        get_or-set_same s.words word (get_or s.words word 0 + 1) 0 inside in
         record {
           words = later.words;
           words_are = later.words_are ∙ set-set s.words word (get_or s.words word 0 + 1) (get_or raise word 0 + length rest)
@@ -146,7 +162,8 @@ module _ (start : Start) (wire : ℕ) (end : End) (formed : IsWellFormed start.n
             ledger_of t start.words raise (set s.views id then),
             went_n,
             count,
-            subst (λ (vs : List View). GoInTurn t wire end (n + 1) rest (ledger_of t start.words raise (set s.views id then)) (ledger_of t start.words later.words vs)) views later.in_turn,
+            subst (λ (vs : List View). GoInTurn t wire end (n + 1) rest (ledger_of t start.words raise (set s.views id then))
+                (ledger_of t start.words later.words vs)) views later.in_turn,
           );
         }
       where
@@ -176,17 +193,22 @@ all-may start slots id me wire end no_slot idle of once wires low ends stands s 
     let g_here : get_elem? gone.views id ≡ some g = get-here s.views id v g here in
     let again : set gone.views id w ≡ set s.views id w = set-set s.views id g w in
     let kept_w : HoldsAt start (record { words = words; homes = s.homes; views = set s.views id w }) =
-    subst (λ (vs : List View). HoldsAt start (record { words = words; homes = s.homes; views = vs })) again (kept-recounted start gone id g (v.steps + 1) g_here gone_all.kept) in
+    subst (λ (vs : List View). HoldsAt start (record { words = words; homes = s.homes; views = vs })) again
+    (kept-recounted start gone id g (v.steps + 1) g_here gone_all.kept) in
     let after : State (Unit {0}) View = record { words = words; homes = s.homes; views = set s.views id w } in
     let inside : at < length s.words = omega (arith, kept.rule.words, end-there t end stands) in
     let now : count_in t words end ≡ n + length tokens =
-    count-word t words end stands ∙ ap (λ (ws : List ℕ). get_or ws at 0) gone_all.words_are ∙ get_or-set_same s.words at (n + length tokens) 0 inside in
-    let few : n + length tokens ≤ base start + start.quota = omega (arith, now, count-few start after kept_w end stands, few-came start after kept_w) in
+    count-word t words end stands ∙ ap (λ (ws : List ℕ). get_or ws at 0) gone_all.words_are
+    ∙ get_or-set_same s.words at (n + length tokens) 0 inside in
+    let few : n + length tokens ≤ base start + start.quota =
+    omega (arith, now, count-few start after kept_w end stands, few-came start after kept_w) in
     let bound = kept.began.quota in
     let carried = kept.began.few in
     let no_wrap : n + length tokens ≡ (n + length tokens) % 18446744073709551616 = omega arith in
-    let words_now : words ≡ set s.words at ((n + length tokens) % 18446744073709551616) = gone_all.words_are ∙ ap (set s.words at) no_wrap in
-    let same = ledger-alike t start.words words gone.views (set gone.views id w) (counted-alike start gone id g (v.steps + 1) g_here (clients_in t start.words)) ∙ ap (ledger_of t start.words words) again in (
+    let words_now : words ≡ set s.words at ((n + length tokens) % 18446744073709551616) =
+    gone_all.words_are ∙ ap (set s.words at) no_wrap in
+    let same = ledger-alike t start.words words gone.views (set gone.views id w)
+    (counted-alike start gone id g (v.steps + 1) g_here (clients_in t start.words)) ∙ ap (ledger_of t start.words words) again in (
       w,
       keeps,
       tt,
@@ -213,10 +235,14 @@ all-may start slots id me wire end no_slot idle of once wires low ends stands s 
 pub all_go-on : (start : Start) (slots id : ℕ) (me : Me (Unit {0}) View) (is : Sweeping) (wire : ℕ) (end : End) (count word : ℕ)
     → is ≡ record { start = start; wire = wire; end = end } → me.1 ≡ [] → me.0.loads ≡ [] → me.0.start ≡ start
     → ((k : ℕ) → times_in me.0.tokens k ≤ 1) → length me.0.tokens ≡ length start.network.table.ends → wire < length start.network.table.ends
-    → length (on me.0.tokens wire) ≡ count → end_of start.network.table wire ≡ end → Stands start.network.table end → end_word start.network.table end ≡ word
+    → length (on me.0.tokens wire) ≡ count → end_of start.network.table wire ≡ end → Stands start.network.table end
+    → end_word start.network.table end ≡ word
     → Allows (HoldsAt start) slots id me word (λ n. (n + count) % 2 ^ 64) (λ n new. (new.1 ≡ []) × AllGoOn is me.0 n new.0)
 all_go-on start slots id me is wire end count word same no_slot idle of once wires low many ends stands at =
-    subst (λ (x : Sweeping). Allows (HoldsAt start) slots id me word (λ n. (n + count) % 2 ^ 64) (λ n new. (new.1 ≡ []) × AllGoOn x me.0 n new.0)) (sym same)
-    (subst (λ (k : ℕ). Allows (HoldsAt start) slots id me word (λ n. (n + k) % 2 ^ 64) (λ n new. (new.1 ≡ []) × AllGoOn (record { start = start; wire = wire; end = end }) me.0 n new.0)) many
-    (subst (λ (k : ℕ). Allows (HoldsAt start) slots id me k (λ n. (n + length (on me.0.tokens wire)) % 2 ^ 64) (λ n new. (new.1 ≡ []) × AllGoOn (record { start = start; wire = wire; end = end }) me.0 n new.0)) at
+    subst (λ (x : Sweeping). Allows (HoldsAt start) slots id me word (λ n. (n + count) % 2 ^ 64)
+    (λ n new. (new.1 ≡ []) × AllGoOn x me.0 n new.0)) (sym same)
+    (subst (λ (k : ℕ). Allows (HoldsAt start) slots id me word (λ n. (n + k) % 2 ^ 64)
+    (λ n new. (new.1 ≡ []) × AllGoOn (record { start = start; wire = wire; end = end }) me.0 n new.0)) many
+    (subst (λ (k : ℕ). Allows (HoldsAt start) slots id me k (λ n. (n + length (on me.0.tokens wire)) % 2 ^ 64)
+    (λ n new. (new.1 ≡ []) × AllGoOn (record { start = start; wire = wire; end = end }) me.0 n new.0)) at
     (all-may start slots id me wire end no_slot idle of once wires low ends stands)))

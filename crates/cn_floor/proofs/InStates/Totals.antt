@@ -7,7 +7,8 @@ module _ {X : Type 0} where
   -- the total where one view changes
   pub total-set : (f : X → ℕ) (xs : List X) (i : ℕ) (v w : X) → get_elem? xs i ≡ some v → sum_by f (set xs i w) + f v ≡ sum_by f xs + f w
   total-set f [] i v w e = absurd (some-ne-none v (sym e))
-  total-set f (x ∷ xs) zero v w e = let is : f x ≡ f v = ap f (some-injective x v e) in omega (arith, sum_by-cons f x xs, sum_by-cons f w xs)
+  total-set f (x ∷ xs) zero v w e = let is : f x ≡ f v = ap f (some-injective x v e) in
+      omega (arith, sum_by-cons f x xs, sum_by-cons f w xs)
   total-set f (x ∷ xs) (suc i) v w e = omega (arith, total-set f xs i v w e, sum_by-cons f x xs, sum_by-cons f x (set xs i w))
 
   -- one view is a part of the total
@@ -19,15 +20,18 @@ module _ {X : Type 0} where
   -- a total of lesser parts
   pub total-le : (f g : X → ℕ) (xs : List X) → ((i : ℕ) (v : X) → get_elem? xs i ≡ some v → f v ≤ g v) → sum_by f xs ≤ sum_by g xs
   total-le f g [] h = omega arith
-  total-le f g (x ∷ xs) h = let first : f x ≤ g x = h 0 x refl in omega (arith, total-le f g xs (λ i v e. h (suc i) v e), sum_by-cons f x xs, sum_by-cons g x xs)
+  total-le f g (x ∷ xs) h = let first : f x ≤ g x = h 0 x refl in
+      omega (arith, total-le f g xs (λ i v e. h (suc i) v e), sum_by-cons f x xs, sum_by-cons g x xs)
 
   -- a total of the same parts
   pub total_same : (f g : X → ℕ) (xs : List X) → ((i : ℕ) (v : X) → get_elem? xs i ≡ some v → f v ≡ g v) → sum_by f xs ≡ sum_by g xs
   total_same f g [] h = refl
-  total_same f g (x ∷ xs) h = let first : f x ≡ g x = h 0 x refl in omega (arith, total_same f g xs (λ i v e. h (suc i) v e), sum_by-cons f x xs, sum_by-cons g x xs)
+  total_same f g (x ∷ xs) h = let first : f x ≡ g x = h 0 x refl in
+      omega (arith, total_same f g xs (λ i v e. h (suc i) v e), sum_by-cons f x xs, sum_by-cons g x xs)
 
   -- where one part is the whole of one total, and no other total has a part where this has none, it is the whole of the other
-  pub mine-only : (f g : X → ℕ) (xs : List X) (i : ℕ) (v : X) → get_elem? xs i ≡ some v → ((j : ℕ) (x : X) → get_elem? xs j ≡ some x → g x ≡ 0 → f x ≡ 0) → sum_by g xs ≡ g v → sum_by f xs ≡ f v
+  pub mine-only : (f g : X → ℕ) (xs : List X) (i : ℕ) (v : X) → get_elem? xs i ≡ some v
+      → ((j : ℕ) (x : X) → get_elem? xs j ≡ some x → g x ≡ 0 → f x ≡ 0) → sum_by g xs ≡ g v → sum_by f xs ≡ f v
   mine-only f g [] i v at h e = absurd (some-ne-none v (sym at))
   mine-only f g (x ∷ xs) zero v at h e =
       let is : x ≡ v = some-injective x v at in let fs : f x ≡ f v = ap f is in let gs : g x ≡ g v = ap g is in
@@ -43,4 +47,9 @@ module _ {X : Type 0} where
   mine-only f g (x ∷ xs) (suc i) v at h e =
       let part = part-le g xs i v at in
       let none : g x ≡ 0 = omega (arith, sum_by-cons g x xs) in
-      omega (arith, h 0 x refl none, sum_by-cons f x xs, mine-only f g xs i v at (λ j y a. h (suc j) y a) (omega (arith, sum_by-cons g x xs)))
+      omega (
+        arith,
+        h 0 x refl none,
+        sum_by-cons f x xs,
+        mine-only f g xs i v at (λ j y a. h (suc j) y a) (omega (arith, sum_by-cons g x xs)),
+      )

@@ -21,7 +21,8 @@ any-times : (f : Granted → ℕ) (n : ℕ) (gs : List Granted) → list_any (λ
 any-times f n [] h = cc h
 any-times f n (g ∷ gs) h = each (eqb_tells n (f g)) (any-times f n gs)
   where
-    each : ((eqb n (f g) ≡ true) × (n ≡ f g)) ⊎ ((eqb n (f g) ≡ false) × (n ≢ f g)) → (list_any (λ g. n == f g) gs ≡ true → 1 ≤ times n (map f gs)) → 1 ≤ times n (map f (g ∷ gs))
+    each : ((eqb n (f g) ≡ true) × (n ≡ f g)) ⊎ ((eqb n (f g) ≡ false) × (n ≢ f g))
+        → (list_any (λ g. n == f g) gs ≡ true → 1 ≤ times n (map f gs)) → 1 ≤ times n (map f (g ∷ gs))
     each (inl w) more =
         let one : ◌≡◌ {A = ℕ} (cond (eqb (f g) n) 1 0) 1 = ap {B = ℕ} (λ q. cond q 1 0) (eq-eqb (f g) n (sym w.1)) in
         omega (arith, times-cons n (f g) (map f gs), one)
@@ -31,7 +32,8 @@ none-times : (f : Granted → ℕ) (n : ℕ) (gs : List Granted) → list_any (�
 none-times f n [] h = times-nil n
 none-times f n (g ∷ gs) h = each (eqb_tells n (f g)) (none-times f n gs)
   where
-    each : ((eqb n (f g) ≡ true) × (n ≡ f g)) ⊎ ((eqb n (f g) ≡ false) × (n ≢ f g)) → (list_any (λ g. n == f g) gs ≡ false → times n (map f gs) ≡ 0) → times n (map f (g ∷ gs)) ≡ 0
+    each : ((eqb n (f g) ≡ true) × (n ≡ f g)) ⊎ ((eqb n (f g) ≡ false) × (n ≢ f g))
+        → (list_any (λ g. n == f g) gs ≡ false → times n (map f gs) ≡ 0) → times n (map f (g ∷ gs)) ≡ 0
     each (inl w) more = cc (rw w.0 at h)
     each (inr w) more =
         let none : ◌≡◌ {A = ℕ} (cond (eqb (f g) n) 1 0) 0 = ap {B = ℕ} (λ q. cond q 1 0) (ne_eqb (f g) n (λ x. w.1 (sym x))) in
@@ -46,7 +48,8 @@ twice-none : (before : List Granted) (g : Granted) → twice_cause before g ≡ 
 unfolding twice_cause
 twice-none before g = each (has_client g.client (of_epoch g.epoch before))
   where
-    each : (b : Bool) → (if b then Some cause.DuplicateClient else if has_name g.name (of_epoch g.epoch before) then Some cause.DuplicateName else None) ≡ None → b ≡ false
+    each : (b : Bool) → (if b then Some cause.DuplicateClient else if has_name g.name (of_epoch g.epoch before) then Some
+        cause.DuplicateName else None) ≡ None → b ≡ false
     each true e = absurd (none-some _ (sym e))
     each false e = refl
 
@@ -54,7 +57,8 @@ twice-none before g = each (has_client g.client (of_epoch g.epoch before))
 abbrev pub AreOnce : List Granted → Type 0
 AreOnce grants = (e n : ℕ) → times n (map (λ (g : Granted). g.client) (of_epoch e grants)) ≤ 1
 
-pub once-next : (most : ℕ) (before : List Granted) (g : Granted) → AreOnce before → spelled_cause most before (Some g) ≡ None → AreOnce (before ++ g ∷ [])
+pub once-next : (most : ℕ) (before : List Granted) (g : Granted) → AreOnce before → spelled_cause most before (Some g) ≡ None
+    → AreOnce (before ++ g ∷ [])
 once-next most before g once none e n = each (eqb_tells g.epoch e)
   where
     free : has_client g.client (of_epoch g.epoch before) ≡ false
@@ -64,24 +68,45 @@ once-next most before g once none e n = each (eqb_tells g.epoch e)
         → times n (map (λ (g : Granted). g.client) (of_epoch e before ++ g ∷ [])) ≤ 1
     here same (inl w) =
         let zero_times : times n (map (λ (g : Granted). g.client) (of_epoch e before)) ≡ 0 =
-        (λ i. times (sym w.1 i) (map (λ (g : Granted). g.client) (of_epoch (sym same i) before))) ∙ none-times (λ g. g.client) g.client (of_epoch g.epoch before) free in
-        let whole : times n (map (λ (g : Granted). g.client) (of_epoch e before ++ g ∷ [])) ≡ times n (map (λ (g : Granted). g.client) (of_epoch e before) ++ g.client ∷ []) =
+        (λ i. times (sym w.1 i) (map (λ (g : Granted). g.client) (of_epoch (sym same i) before)))
+        ∙ none-times (λ g. g.client) g.client (of_epoch g.epoch before) free in
+        let whole : times n (map (λ (g : Granted). g.client) (of_epoch e before ++ g ∷ []))
+        ≡ times n (map (λ (g : Granted). g.client) (of_epoch e before) ++ g.client ∷ []) =
         ap (times n) (map-append (λ (g : Granted). g.client) (of_epoch e before) (g ∷ [])) in
         let one : ◌≡◌ {A = ℕ} (cond (eqb g.client n) 1 0) 1 = ap {B = ℕ} (λ q. cond q 1 0) w.0 in
-        omega (arith, zero_times, whole, one, times-append n (map (λ (g : Granted). g.client) (of_epoch e before)) (g.client ∷ []), times-cons n g.client [], times-nil n)
+        omega (
+          arith,
+          zero_times,
+          whole,
+          one,
+          times-append n (map (λ (g : Granted). g.client) (of_epoch e before)) (g.client ∷ []),
+          times-cons n g.client [],
+          times-nil n,
+        )
     here same (inr w) =
-        let whole : times n (map (λ (g : Granted). g.client) (of_epoch e before ++ g ∷ [])) ≡ times n (map (λ (g : Granted). g.client) (of_epoch e before) ++ g.client ∷ []) =
+        let whole : times n (map (λ (g : Granted). g.client) (of_epoch e before ++ g ∷ []))
+        ≡ times n (map (λ (g : Granted). g.client) (of_epoch e before) ++ g.client ∷ []) =
         ap (times n) (map-append (λ (g : Granted). g.client) (of_epoch e before) (g ∷ [])) in
         let zero_here : ◌≡◌ {A = ℕ} (cond (eqb g.client n) 1 0) 0 = ap {B = ℕ} (λ q. cond q 1 0) w.0 in
-        omega (arith, once e n, whole, zero_here, times-append n (map (λ (g : Granted). g.client) (of_epoch e before)) (g.client ∷ []), times-cons n g.client [], times-nil n)
+        omega (
+          arith,
+          once e n,
+          whole,
+          zero_here,
+          times-append n (map (λ (g : Granted). g.client) (of_epoch e before)) (g.client ∷ []),
+          times-cons n g.client [],
+          times-nil n,
+        )
 
-    each : ((eqb g.epoch e ≡ true) × (g.epoch ≡ e)) ⊎ ((eqb g.epoch e ≡ false) × (g.epoch ≢ e)) → times n (map (λ (g : Granted). g.client) (of_epoch e (before ++ g ∷ []))) ≤ 1
+    each : ((eqb g.epoch e ≡ true) × (g.epoch ≡ e)) ⊎ ((eqb g.epoch e ≡ false) × (g.epoch ≢ e))
+        → times n (map (λ (g : Granted). g.client) (of_epoch e (before ++ g ∷ []))) ≤ 1
     each (inl w) = rw (of_same before g e w.1) (here w.1 (eqb_tells g.client n))
     each (inr w) = rw (of-other before g e w.1) (once e n)
 
 -- a cause that another implies
 module _ (header : Record → Option GrantCause) (one other : List Record → Record → Option GrantCause) where
-  weaker : ((before : List Record) (fields : Record) → one before fields ≡ None → other before fields ≡ None) → (records : List Record) (at : ℕ) → cause_by header one records at ≡ None
+  weaker : ((before : List Record) (fields : Record) → one before fields ≡ None → other before fields ≡ None)
+      → (records : List Record) (at : ℕ) → cause_by header one records at ≡ None
       → cause_by header other records at ≡ None
   unfolding cause_by
   weaker less records at = each (at == 0) (nat_lt at (length records))
@@ -93,15 +118,18 @@ module _ (header : Record → Option GrantCause) (one other : List Record → Re
       each false true e = less (take at records) (get_or records at []) e
       each false false e = e
 
-form_of : (most : ℕ) (before : List Granted) (spelled : Option Granted) → spelled_cause most before spelled ≡ None → spelled_form most before spelled ≡ None
+form_of : (most : ℕ) (before : List Granted) (spelled : Option Granted) → spelled_cause most before spelled ≡ None
+    → spelled_form most before spelled ≡ None
 form_of most before None e = e
 form_of most before (Some g) e = (first_none (form_cause most before g) (twice_cause before g) e).0
 
 -- an epoch that lacks no name is tight
-epoch-tight : (grants : List Granted) → ((n : ℕ) → times n (map (λ (g : Granted). g.client) grants) ≤ 1) → ((n : ℕ) → n < length grants → has_name n grants ≡ true) → AreTightGrants grants
+epoch-tight : (grants : List Granted) → ((n : ℕ) → times n (map (λ (g : Granted). g.client) grants) ≤ 1)
+    → ((n : ℕ) → n < length grants → has_name n grants ≡ true) → AreTightGrants grants
 epoch-tight grants once there = record {
   clients = once;
-  names = all_below (length grants) (map (λ (g : Granted). g.name) grants) (length-map grants (λ (g : Granted). g.name)) (λ n h. any-times (λ g. g.name) n grants (there n h));
+  names = all_below (length grants) (map (λ (g : Granted). g.name) grants) (length-map grants (λ (g : Granted). g.name))
+      (λ n h. any-times (λ g. g.name) n grants (there n h));
 }
 
 not_false : (b : Bool) → (b ≡ false → ⊥) → b ≡ true
@@ -109,10 +137,13 @@ not_false true h = refl
 not_false false h = absurd (h refl)
 
 -- the list is tight where no record has a cause, no client stands twice in an epoch, and no epoch lacks a name
-pub list-tight : (most : ℕ) (records : List Record) (grants : List Granted) → IsClean (grants_cause most) records → grants_spelled (drop 1 records) ≡ grants → AreOnce grants → ((e n : ℕ) → Lacks grants e n → ⊥) → IsTightList most records
+pub list-tight : (most : ℕ) (records : List Record) (grants : List Granted) → IsClean (grants_cause most) records
+    → grants_spelled (drop 1 records) ≡ grants → AreOnce grants → ((e n : ℕ) → Lacks grants e n → ⊥) → IsTightList most records
 list-tight most records grants clean spells once full = record {
-  form = λ at. weaker header_cause (record_cause most) (record_form most) (λ before fields. form_of most (grants_spelled (drop 1 before)) (grant_spelled fields)) records at (clean at);
-  tight = λ e. rw spells (epoch-tight (of_epoch e grants) (once e) (λ n h. not_false (has_name n (of_epoch e grants)) (λ f. full e n (h, f))));
+  form = λ at. weaker header_cause (record_cause most) (record_form most)
+      (λ before fields. form_of most (grants_spelled (drop 1 before)) (grant_spelled fields)) records at (clean at);
+  tight = λ e. rw spells (epoch-tight (of_epoch e grants) (once e)
+      (λ n h. not_false (has_name n (of_epoch e grants)) (λ f. full e n (h, f))));
 }
 
 -- the other way: each record of a tight list has no cause
@@ -123,14 +154,17 @@ module _ (gb gm : List Granted) (g : Granted) (tight : AreTightGrants (of_epoch 
       one : of_epoch g.epoch (g ∷ gm) ≡ g ∷ of_epoch g.epoch gm
       one = rw (eq-eqb g.epoch g.epoch refl) refl
 
-  first_time : (f : Granted → ℕ) → times (f g) (map f (of_epoch g.epoch (gb ++ g ∷ gm))) ≤ 1 → list_any (λ x. f g == f x) (of_epoch g.epoch gb) ≡ false
+  first_time : (f : Granted → ℕ) → times (f g) (map f (of_epoch g.epoch (gb ++ g ∷ gm))) ≤ 1
+      → list_any (λ x. f g == f x) (of_epoch g.epoch gb) ≡ false
   first_time f most = each (list_any (λ x. f g == f x) (of_epoch g.epoch gb)) refl
     where
       each : (b : Bool) → list_any (λ x. f g == f x) (of_epoch g.epoch gb) ≡ b → list_any (λ x. f g == f x) (of_epoch g.epoch gb) ≡ false
       each false e = e
       each true e =
-          let whole : times (f g) (map f (of_epoch g.epoch (gb ++ g ∷ gm))) ≡ times (f g) (map f (of_epoch g.epoch gb) ++ f g ∷ map f (of_epoch g.epoch gm)) =
-          ap (λ (l : List Granted). times (f g) (map f l)) around ∙ ap (times (f g)) (map-append f (of_epoch g.epoch gb) (g ∷ of_epoch g.epoch gm)) in
+          let whole : times (f g) (map f (of_epoch g.epoch (gb ++ g ∷ gm)))
+          ≡ times (f g) (map f (of_epoch g.epoch gb) ++ f g ∷ map f (of_epoch g.epoch gm)) =
+          ap (λ (l : List Granted). times (f g) (map f l)) around
+          ∙ ap (times (f g)) (map-append f (of_epoch g.epoch gb) (g ∷ of_epoch g.epoch gm)) in
           let one : ◌≡◌ {A = ℕ} (cond (eqb (f g) (f g)) 1 0) 1 = ap {B = ℕ} (λ q. cond q 1 0) (eq-eqb (f g) (f g) refl) in
           absurd (omega (
             arith,
@@ -147,31 +181,43 @@ module _ (gb gm : List Granted) (g : Granted) (tight : AreTightGrants (of_epoch 
   no-twice =
       let k = length (of_epoch g.epoch (gb ++ g ∷ gm)) in
       let names : times g.name (map (λ (x : Granted). x.name) (of_epoch g.epoch (gb ++ g ∷ gm))) ≤ 1 =
-      omega (arith, once_each k (map (λ (x : Granted). x.name) (of_epoch g.epoch (gb ++ g ∷ gm))) tight.names g.name, at_most_once k g.name) in
+      omega (
+        arith,
+        once_each k (map (λ (x : Granted). x.name) (of_epoch g.epoch (gb ++ g ∷ gm))) tight.names g.name,
+        at_most_once k g.name,
+      ) in
       rw (first_time (λ x. x.client) (tight.clients g.client), first_time (λ x. x.name) names) refl
 
 -- the grants round a record
-grants-round : (records : List Record) (m : ℕ) (g : Granted) → m < length records → grant_spelled (get_or records m []) ≡ Some g → grants_spelled records ≡ grants_spelled (take m records) ++ g ∷ grants_spelled (drop (suc m) records)
+grants-round : (records : List Record) (m : ℕ) (g : Granted) → m < length records → grant_spelled (get_or records m []) ≡ Some g
+    → grants_spelled records ≡ grants_spelled (take m records) ++ g ∷ grants_spelled (drop (suc m) records)
 grants-round [] m g h is = absurd (omega (arith, h))
 grants-round (r ∷ records) zero g h is = rw is refl
 grants-round (r ∷ records) (suc m) g h is = each (grant_spelled r) (grants-round records m g (omega (arith, h)) is)
   where
-    each : (spelled : Option Granted) → grants_spelled records ≡ grants_spelled (take m records) ++ g ∷ grants_spelled (drop (suc m) records)
-        → cons_option spelled (grants_spelled records) ≡ cons_option spelled (grants_spelled (take m records)) ++ g ∷ grants_spelled (drop (suc m) records)
+    each : (spelled : Option Granted) → grants_spelled records
+        ≡ grants_spelled (take m records) ++ g ∷ grants_spelled (drop (suc m) records)
+        → cons_option spelled (grants_spelled records)
+        ≡ cons_option spelled (grants_spelled (take m records)) ++ g ∷ grants_spelled (drop (suc m) records)
     each (Some x) more = ap (λ (l : List Granted). x ∷ l) more
     each None more = more
 
-at-record : (most : ℕ) (r : Record) (records : List Record) (m : ℕ) → m < length records → ((epoch : ℕ) → AreTightGrants (of_epoch epoch (grants_spelled records)))
-    → spelled_form most (grants_spelled (take m records)) (grant_spelled (get_or records m [])) ≡ None → spelled_cause most (grants_spelled (take m records)) (grant_spelled (get_or records m [])) ≡ None
+at-record : (most : ℕ) (r : Record) (records : List Record) (m : ℕ) → m < length records
+    → ((epoch : ℕ) → AreTightGrants (of_epoch epoch (grants_spelled records)))
+    → spelled_form most (grants_spelled (take m records)) (grant_spelled (get_or records m [])) ≡ None
+    → spelled_cause most (grants_spelled (take m records)) (grant_spelled (get_or records m [])) ≡ None
 at-record most r records m h tight = each (grant_spelled (get_or records m [])) refl
   where
-    each : (spelled : Option Granted) → grant_spelled (get_or records m []) ≡ spelled → spelled_form most (grants_spelled (take m records)) spelled ≡ None → spelled_cause most (grants_spelled (take m records)) spelled ≡ None
+    each : (spelled : Option Granted) → grant_spelled (get_or records m []) ≡ spelled
+        → spelled_form most (grants_spelled (take m records)) spelled ≡ None
+        → spelled_cause most (grants_spelled (take m records)) spelled ≡ None
     each None is e = e
     each (Some g) is e =
         rw e (no-twice (grants_spelled (take m records)) (grants_spelled (drop (suc m) records)) g
         (subst (λ (l : List Granted). AreTightGrants (of_epoch g.epoch l)) (grants-round records m g h is) (tight g.epoch)))
 
-tight_at : (most : ℕ) (records : List Record) (at : ℕ) → ((epoch : ℕ) → AreTightGrants (of_epoch epoch (grants_spelled (drop 1 records)))) → grants_form most records at ≡ None → grants_cause most records at ≡ None
+tight_at : (most : ℕ) (records : List Record) (at : ℕ) → ((epoch : ℕ) → AreTightGrants (of_epoch epoch (grants_spelled (drop 1 records))))
+    → grants_form most records at ≡ None → grants_cause most records at ≡ None
 unfolding cause_by
 tight_at most records zero tight e = e
 tight_at most [] (suc m) tight e =
@@ -180,7 +226,9 @@ tight_at most [] (suc m) tight e =
     rw (nonzero, past) refl
 tight_at most (r ∷ records) (suc m) tight e = each (leb_tells (suc m) (length records)) e
   where
-    each : ((leb (suc m) (length records) ≡ true) × (suc m ≤ length records)) ⊎ ((leb (suc m) (length records) ≡ false) × (length records < suc m)) → grants_form most (r ∷ records) (suc m) ≡ None → grants_cause most (r ∷ records) (suc m) ≡ None
+    each : ((leb (suc m) (length records) ≡ true) × (suc m ≤ length records))
+        ⊎ ((leb (suc m) (length records) ≡ false) × (length records < suc m)) → grants_form most (r ∷ records) (suc m) ≡ None
+        → grants_cause most (r ∷ records) (suc m) ≡ None
     each (inl w) e =
         let far : nat_lt (suc m) (length (r ∷ records)) ≡ true = lt-ltb (suc m) (length (r ∷ records)) (omega (arith, w.1)) in
         let nonzero : (suc m == 0) ≡ false = ne_eqb (suc m) 0 (λ x. omega (arith, x)) in
@@ -195,9 +243,15 @@ tight-clean most records t at = tight_at most records at t.tight (t.form at)
 
 tight-full : (grants : List Granted) → AreTightGrants grants → (n : ℕ) → n < length grants → has_name n grants ≡ false → ⊥
 tight-full grants t n h e =
-    omega (arith, none-times (λ g. g.name) n grants e, once_each (length grants) (map (λ (g : Granted). g.name) grants) t.names n, once-there (length grants) n h)
+    omega (
+      arith,
+      none-times (λ g. g.name) n grants e,
+      once_each (length grants) (map (λ (g : Granted). g.name) grants) t.names n,
+      once-there (length grants) n h,
+    )
 
-no_first : (most : ℕ) (records : List Record) (at : ℕ) (why : GrantCause) → (IsOfReading why → ⊥) → IsFirstWithCause most records at why → IsTightList most records → ⊥
+no_first : (most : ℕ) (records : List Record) (at : ℕ) (why : GrantCause) → (IsOfReading why → ⊥) → IsFirstWithCause most records at why
+    → IsTightList most records → ⊥
 no_first most records at why inside fault t =
     elim fault.reported [
       | inl e ↦ none-some why (sym (tight-clean most records t at) ∙ e)
@@ -223,8 +277,10 @@ tight-flaw most records Memory h t = tt
 tight-flaw most records (Form at) h t = no_first most records at cause.Form is-form h t
 tight-flaw most records (DuplicateClient at) h t = no_first most records at cause.DuplicateClient is-client h t
 tight-flaw most records (DuplicateName at) h t = no_first most records at cause.DuplicateName is_name h t
-tight-flaw most records (Gap epoch name) h t = tight-full (of_epoch epoch (grants_spelled (drop 1 records))) (t.tight epoch) name h.1.lacks.0 h.1.lacks.1
+tight-flaw most records (Gap epoch name) h t =
+    tight-full (of_epoch epoch (grants_spelled (drop 1 records))) (t.tight epoch) name h.1.lacks.0 h.1.lacks.1
 
-pub exact : {T : Type 0} (P : T → Type 0) (most : ℕ) (records : List Record) (result : Result T Flaw) → MatchResult result P (IsFlaw most records) → IfErr result (λ flaw. IsTightList most records → IsOutside flaw)
+pub exact : {T : Type 0} (P : T → Type 0) (most : ℕ) (records : List Record) (result : Result T Flaw)
+    → MatchResult result P (IsFlaw most records) → IfErr result (λ flaw. IsTightList most records → IsOutside flaw)
 exact P most records (Ok x) h = tt
 exact P most records (Err flaw) h = λ t. tight-flaw most records flaw h t

@@ -7,16 +7,20 @@ use Rattle.cn_report.specs.Grants.TightText.{tight_counts, tight_end, tight_head
 line-counts : (word : List ℕ) (counts : List ℕ) → line (word ∷ map decimal counts) ≡ word ++ (tight_counts counts ++ codes "\n")
 line-counts word [] = refl
 line-counts word (count ∷ counts) =
-    ap (λ (l : List ℕ). word ++ 32 ∷ l) (line-counts (decimal count) counts ∙ sym (append_assoc (decimal count) (tight_counts counts) (codes "\n")))
+    ap (λ (l : List ℕ). word ++ 32 ∷ l) (line-counts (decimal count) counts
+    ∙ sym (append_assoc (decimal count) (tight_counts counts) (codes "\n")))
 
-pub line-whole : (number clients : ℕ) (counts : List ℕ) → tight_head number clients ++ (tight_counts counts ++ codes "\n") ≡ tight_line (number, clients, counts)
+pub line-whole : (number clients : ℕ) (counts : List ℕ)
+    → tight_head number clients ++ (tight_counts counts ++ codes "\n") ≡ tight_line (number, clients, counts)
 unfolding tight_head
 line-whole number clients counts =
-    let e : line (codes "counts" ∷ map decimal counts) ≡ codes "counts" ++ (tight_counts counts ++ codes "\n") = line-counts (codes "counts") counts in
+    let e : line (codes "counts" ∷ map decimal counts) ≡ codes "counts" ++ (tight_counts counts ++ codes "\n") =
+    line-counts (codes "counts") counts in
     rw e (simp append_assoc refl)
 
 -- the end line, by the numbers of what the epochs are made of
-sum-mapped : {X : Type 0} (f : X → ℕ × ℕ × List ℕ) (xs : List X) → sum_by (λ (number, clients, counts). clients) (map f xs) ≡ sum_by (λ x. (f x).1) xs
+sum-mapped : {X : Type 0} (f : X → ℕ × ℕ × List ℕ) (xs : List X)
+    → sum_by (λ (number, clients, counts). clients) (map f xs) ≡ sum_by (λ x. (f x).1) xs
 sum-mapped f [] = refl
 sum-mapped f (x ∷ xs) =
     let rest = sum-mapped f xs in

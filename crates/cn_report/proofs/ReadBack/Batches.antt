@@ -27,7 +27,8 @@ number-small field n e = grind (arith, nat_tests, e)
 abbrev IsSmall : Arrival → Type 0
 IsSmall a = (a.epoch < 2 ^ 64) × (a.client < 2 ^ 64)
 
-arriving-small : (epoch client entry : Option ℕ) (a : Arrival) → ((n : ℕ) → epoch ≡ Some n → n < 2 ^ 64) → ((n : ℕ) → client ≡ Some n → n < 2 ^ 64)
+arriving-small : (epoch client entry : Option ℕ) (a : Arrival) → ((n : ℕ) → epoch ≡ Some n → n < 2 ^ 64)
+    → ((n : ℕ) → client ≡ Some n → n < 2 ^ 64)
     → result_ok (arriving epoch client entry) ≡ Some a → IsSmall a
 arriving-small None client entry a e c is = absurd (none-some a is)
 arriving-small (Some x) None entry a e c is = absurd (none-some a is)
@@ -48,18 +49,22 @@ ruled-small : (entries : ℕ) (fields : Record) (a : Arrival) → result_ok (rul
 unfolding ruled_arrival
 ruled-small entries [] a is = absurd (none-some a is)
 ruled-small entries (e ∷ []) a is = absurd (none-some a is)
-ruled-small entries (e ∷ c ∷ []) a is = arriving-small (number_in e) (number_in c) (entry_by_rule entries (number_in c)) a (number-small e) (number-small c) is
+ruled-small entries (e ∷ c ∷ []) a is = arriving-small (number_in e) (number_in c) (entry_by_rule entries (number_in c)) a (number-small e)
+    (number-small c) is
 ruled-small entries (e ∷ c ∷ n ∷ rest) a is = absurd (none-some a is)
 
-arrival-small : (heading : Heading) (bounds : Bounds) (fields : Record) (a : Arrival) → result_ok (arrival_in heading bounds fields) ≡ Some a → IsSmall a
+arrival-small : (heading : Heading) (bounds : Bounds) (fields : Record) (a : Arrival)
+    → result_ok (arrival_in heading bounds fields) ≡ Some a → IsSmall a
 arrival-small WithEntry bounds fields a is = with-entry-small fields a is
 arrival-small ByRule bounds fields a is = ruled-small bounds.entries fields a is
 
 arrivals-small : (heading : Heading) (bounds : Bounds) (records : List Record) → AllByRecursion IsSmall (arrivals_in heading bounds records)
 arrivals-small heading bounds [] = tt
-arrivals-small heading bounds (fields ∷ records) = by (result_ok (arrival_in heading bounds fields)) (arrival-small heading bounds fields) (arrivals-small heading bounds records)
+arrivals-small heading bounds (fields ∷ records) =
+    by (result_ok (arrival_in heading bounds fields)) (arrival-small heading bounds fields) (arrivals-small heading bounds records)
   where
-    by : (spelled : Option Arrival) → ((a : Arrival) → spelled ≡ Some a → IsSmall a) → AllByRecursion IsSmall (arrivals_in heading bounds records)
+    by : (spelled : Option Arrival) → ((a : Arrival) → spelled ≡ Some a → IsSmall a)
+        → AllByRecursion IsSmall (arrivals_in heading bounds records)
         → AllByRecursion IsSmall (cons_option spelled (arrivals_in heading bounds records))
     by None small more = more
     by (Some a) small more = (small a refl, more)
@@ -73,25 +78,32 @@ all_front : {X : Type 0} (P : X → Type 0) (xs ys : List X) → AllByRecursion 
 all_front P [] ys all = (tt, all)
 all_front P (x ∷ xs) ys all = let rest = all_front P xs ys all.1 in ((all.0, rest.0), rest.1)
 
-clients-small : (n : ℕ) (cs : List Client) → AllByRecursion IsSmall (map (λ (c : Client). record { epoch = n; client = c.id; entry = c.entry }) cs)
+clients-small : (n : ℕ) (cs : List Client)
+    → AllByRecursion IsSmall (map (λ (c : Client). record { epoch = n; client = c.id; entry = c.entry }) cs)
     → All (λ client. client < 2 ^ 64) (map (λ (c : Client). c.id) cs)
 clients-small n [] all = All-nil (λ (client : ℕ). client < 2 ^ 64)
-clients-small n (c ∷ cs) all = All-cons (λ (client : ℕ). client < 2 ^ 64) c.id (map (λ (x : Client). x.id) cs) all.0.1 (clients-small n cs all.1)
+clients-small n (c ∷ cs) all = All-cons (λ (client : ℕ). client < 2 ^ 64) c.id (map (λ (x : Client). x.id) cs) all.0.1
+    (clients-small n cs all.1)
 
-epoch-small : (n : ℕ) (cs : List Client) → 0 < length cs → AllByRecursion IsSmall (map (λ (c : Client). record { epoch = n; client = c.id; entry = c.entry }) cs) → n < 2 ^ 64
+epoch-small : (n : ℕ) (cs : List Client) → 0 < length cs
+    → AllByRecursion IsSmall (map (λ (c : Client). record { epoch = n; client = c.id; entry = c.entry }) cs) → n < 2 ^ 64
 epoch-small n [] some all = absurd (omega (arith, some))
 epoch-small n (c ∷ cs) some all = all.0.0
 
-epochs-small : (epochs : List BatchEpoch) → AllByRecursion (λ e. 0 < length e.clients.items) epochs → AllByRecursion IsSmall (flat_map arrivals_of epochs) → AllByRecursion IsSmallEpoch epochs
+epochs-small : (epochs : List BatchEpoch) → AllByRecursion (λ e. 0 < length e.clients.items) epochs
+    → AllByRecursion IsSmall (flat_map arrivals_of epochs) → AllByRecursion IsSmallEpoch epochs
 epochs-small [] some all = tt
 epochs-small (e ∷ epochs) some all =
-    let (first, rest) = all_front IsSmall (arrivals_of e) (flat_map arrivals_of epochs) all in
-    (record { number = epoch-small e.number e.clients.items some.0 first; clients = clients-small e.number e.clients.items first }, epochs-small epochs some.1 rest)
+    let (first, rest) = all_front IsSmall (arrivals_of e) (flat_map arrivals_of epochs) all in (
+      record { number = epoch-small e.number e.clients.items some.0 first; clients = clients-small e.number e.clients.items first },
+      epochs-small epochs some.1 rest,
+    )
 
 -- ---- how many
 
 -- where an arrival has no cause, those before it are few
-few-before : (bounds : Bounds) (before : List Arrival) (spelled : Result Arrival BatchCause) → spelled_cause bounds before spelled ≡ None → length before < bounds.records
+few-before : (bounds : Bounds) (before : List Arrival) (spelled : Result Arrival BatchCause) → spelled_cause bounds before spelled ≡ None
+    → length before < bounds.records
 unfolding arrival_cause
 few-before bounds before (Err why) none = absurd (none-some why (sym none))
 few-before bounds before (Ok a) none = grind (arith, nat_tests, none)
@@ -112,8 +124,10 @@ few-arrivals bounds header (fields ∷ records) clean =
     let none : record_cause bounds (header ∷ take n all) last ≡ None =
     sym (cause_later header_cause (record_cause bounds) (header ∷ all) (suc n) (omega arith) (omega arith)) ∙ clean (suc n) in
     let few = few-before bounds (arrivals_in heading bounds (take n all)) (arrival_in heading bounds last) none in
-    let size : length (arrivals_in heading bounds all) ≡ length (arrivals_in heading bounds (take n all) ++ arrivals_in heading bounds (last ∷ [])) =
-    ap (λ (l : List Record). length (arrivals_in heading bounds l)) parted ∙ ap length (filter_map-append (λ r. result_ok (arrival_in heading bounds r)) (take n all) (last ∷ [])) in
+    let size : length (arrivals_in heading bounds all)
+    ≡ length (arrivals_in heading bounds (take n all) ++ arrivals_in heading bounds (last ∷ [])) =
+    ap (λ (l : List Record). length (arrivals_in heading bounds l)) parted
+    ∙ ap length (filter_map-append (λ r. result_ok (arrival_in heading bounds r)) (take n all) (last ∷ [])) in
     omega (
       arith,
       few,
@@ -122,7 +136,8 @@ few-arrivals bounds header (fields ∷ records) clean =
       at_most_one (result_ok (arrival_in heading bounds last)),
     )
 
-few-in : (bounds : Bounds) (records : List Record) → IsClean (batch_cause bounds) records → length (arrivals_in (heading_in records) bounds (drop 1 records)) ≤ bounds.records
+few-in : (bounds : Bounds) (records : List Record) → IsClean (batch_cause bounds) records
+    → length (arrivals_in (heading_in records) bounds (drop 1 records)) ≤ bounds.records
 few-in bounds [] clean = omega arith
 few-in bounds (header ∷ records) clean = few-arrivals bounds header records clean
 
@@ -133,7 +148,8 @@ arrivals-many : (epochs : List BatchEpoch) → length (flat_map arrivals_of epoc
 arrivals-many [] = refl
 arrivals-many (e ∷ epochs) =
     length-append (arrivals_of e) (flat_map arrivals_of epochs)
-    ∙ (λ i. length-map {B = Arrival} e.clients.items (λ (c : Client). record { epoch = e.number; client = c.id; entry = c.entry }) i + arrivals-many epochs i)
+    ∙ (λ i. length-map {B = Arrival} e.clients.items (λ (c : Client). record { epoch = e.number; client = c.id; entry = c.entry }) i
+    + arrivals-many epochs i)
     ∙ sym (sum_by-cons clients_in e epochs)
 
 -- a batch's numbers are of 64 bits, and its clients are no more than the limit of records
@@ -141,6 +157,7 @@ pub batch-numbers : (bounds : Bounds) (records : List Record) (epochs : List Bat
     → AllByRecursion IsSmallEpoch epochs × (sum_by (λ e. length e.clients.items) epochs ≤ bounds.records)
 batch-numbers bounds records epochs batch =
     let spells = batch.holds.spells in (
-      epochs-small epochs batch.holds.some (subst (AllByRecursion IsSmall) (sym spells) (arrivals-small (heading_in records) bounds (drop 1 records))),
+      epochs-small epochs batch.holds.some (subst (AllByRecursion IsSmall) (sym spells)
+          (arrivals-small (heading_in records) bounds (drop 1 records))),
       omega (arith, ap length spells, arrivals-many epochs, few-in bounds records batch.clean),
     )

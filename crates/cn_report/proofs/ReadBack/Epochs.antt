@@ -21,7 +21,8 @@ grants_of r = map (grant_at r) (range_with_len 0 r.clients)
 abbrev pub all_grants : List EpochRecord → List Granted
 all_grants records = flat_map grants_of records
 
-pub lines-of-all : (records : List EpochRecord) → flat_map (λ r. grant_lines r.number r.clients r.holders.items) records ≡ flat_map line_of (all_grants records)
+pub lines-of-all : (records : List EpochRecord)
+    → flat_map (λ r. grant_lines r.number r.clients r.holders.items) records ≡ flat_map line_of (all_grants records)
 lines-of-all [] = refl
 lines-of-all (r ∷ records) =
     (λ i. sym (flat_map-map line_of (grant_at r) (range_with_len 0 r.clients)) i ++ lines-of-all records i)
@@ -57,7 +58,8 @@ first-epoch r records all =
     ∙ (λ i. one-epoch r (range_with_len 0 r.clients) i ++ above r.number records all i)
     ∙ append-nil (grants_of r)
 
-pub later-epoch : (e : ℕ) (r : EpochRecord) (records : List EpochRecord) → r.number ≢ e → of_epoch e (all_grants (r ∷ records)) ≡ of_epoch e (all_grants records)
+pub later-epoch : (e : ℕ) (r : EpochRecord) (records : List EpochRecord) → r.number ≢ e
+    → of_epoch e (all_grants (r ∷ records)) ≡ of_epoch e (all_grants records)
 later-epoch e r records other =
     filter-append (λ (g : Granted). g.epoch == e) (grants_of r) (all_grants records)
     ∙ ap (λ (l : List Granted). l ++ of_epoch e (all_grants records)) (no-epoch e r (range_with_len 0 r.clients) other)

@@ -32,7 +32,8 @@ plain-digits [] h = refl
 plain-digits (d ∷ ds) h = by (is_ascii_digit d) refl h (λ rest. plain-digits ds rest)
   where
     by : (b : Bool) → is_ascii_digit d ≡ b → (b && list_all is_ascii_digit ds) ≡ true
-        → (list_all is_ascii_digit ds ≡ true → list_any (needs_byte default_writer) ds ≡ false) → list_any (needs_byte default_writer) (d ∷ ds) ≡ false
+        → (list_all is_ascii_digit ds ≡ true → list_any (needs_byte default_writer) ds ≡ false)
+        → list_any (needs_byte default_writer) (d ∷ ds) ≡ false
     by true e rest more = rw (plain-digit d e, more rest) refl
     by false e rest more = cc rest
 

@@ -30,7 +30,8 @@ last-next before g = from 0 before
     from epoch [] = refl
     from epoch (x ∷ gs) = from x.epoch gs
 
-no-form-cause : (most : ℕ) (before : List Granted) (g : Granted) → last_epoch before ≤ g.epoch → length before < most → form_cause most before g ≡ None
+no-form-cause : (most : ℕ) (before : List Granted) (g : Granted) → last_epoch before ≤ g.epoch → length before < most
+    → form_cause most before g ≡ None
 unfolding form_cause
 no-form-cause most before g rises room =
     let back : nat_lt g.epoch (last_epoch before) ≡ false = le-ltb g.epoch (last_epoch before) rises in
@@ -43,15 +44,18 @@ small-next [] g all small = (small, tt)
 small-next (x ∷ before) g all small = (all.0, small-next before g all.1 small)
 
 -- the records of a written list, one after the other
-clean-from : (most : ℕ) (before gs : List Granted) → AllSmall before → AllSmall gs → NeverFall (last_epoch before) gs → length before + length gs ≤ most
-    → AreClean header_cause (record_form most) (header_record ∷ map record_of before) → AreClean header_cause (record_form most) (header_record ∷ map record_of (before ++ gs))
+clean-from : (most : ℕ) (before gs : List Granted) → AllSmall before → AllSmall gs → NeverFall (last_epoch before) gs
+    → length before + length gs ≤ most
+    → AreClean header_cause (record_form most) (header_record ∷ map record_of before)
+    → AreClean header_cause (record_form most) (header_record ∷ map record_of (before ++ gs))
 unfolding AllSmall NeverFall
 clean-from most before [] had small rises few clean = rw (append-nil before) clean
 clean-from most before (g ∷ gs) had small rises few clean =
     let none : record_form most (header_record ∷ map record_of before) (record_of g) ≡ None =
     rw (grants-read before had, granted-back g small.0) (no-form-cause most before g rises.0 (omega (arith, few))) in
     let next = clean-more header_cause (record_form most) (header_record ∷ map record_of before) (record_of g) clean none in
-    let more : AreClean header_cause (record_form most) (header_record ∷ map record_of (before ++ g ∷ [])) = rw (map-append record_of before (g ∷ [])) next in
+    let more : AreClean header_cause (record_form most) (header_record ∷ map record_of (before ++ g ∷ [])) =
+    rw (map-append record_of before (g ∷ [])) next in
     let rest = clean-from most (before ++ g ∷ []) gs (small-next before g had small.0) small.1 (rw (last-next before g) rises.1)
     (omega (arith, few, length-append before (g ∷ []))) more in
     rw (sym (append_assoc before (g ∷ []) gs)) rest
@@ -59,7 +63,9 @@ clean-from most before (g ∷ gs) had small rises few clean =
 header-clean : (most : ℕ) → AreClean header_cause (record_form most) (header_record ∷ map record_of [])
 header-clean most = clean-header header_cause (record_form most) header_record refl
 
-pub form-clean : (most : ℕ) (gs : List Granted) → AllSmall gs → NeverFall 0 gs → length gs ≤ most → IsClean (grants_form most) (header_record ∷ map record_of gs)
+pub form-clean : (most : ℕ) (gs : List Granted) → AllSmall gs → NeverFall 0 gs → length gs ≤ most
+    → IsClean (grants_form most) (header_record ∷ map record_of gs)
 unfolding AllSmall
 form-clean most gs small rises few =
-    clean-all header_cause (record_form most) (header_record ∷ map record_of gs) (clean-from most [] gs tt small rises (omega (arith, few)) (header-clean most))
+    clean-all header_cause (record_form most) (header_record ∷ map record_of gs)
+    (clean-from most [] gs tt small rises (omega (arith, few)) (header-clean most))

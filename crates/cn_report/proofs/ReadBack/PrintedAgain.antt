@@ -61,10 +61,12 @@ below_next (x ∷ numbers) n last below h = (below.0, below_next numbers n last 
 later-below : (numbers : List ℕ) (last : ℕ) (records : List EpochRecord) → AllByRecursion (λ s. AreBelow s.number numbers) records
     → AllByRecursion (λ s. last < s.number) records → AllByRecursion (λ s. AreBelow s.number (numbers ++ last ∷ [])) records
 later-below numbers last [] below above = tt
-later-below numbers last (s ∷ records) below above = (below_next numbers s.number last below.0 above.0, later-below numbers last records below.1 above.1)
+later-below numbers last (s ∷ records) below above =
+    (below_next numbers s.number last below.0 above.0, later-below numbers last records below.1 above.1)
 
 all-numbers : (numbers : List ℕ) (records : List EpochRecord) → AreRisingRecords records → AllByRecursion (λ r. 0 < r.clients) records
-    → AllByRecursion (λ r. AreBelow r.number numbers) records → numbers-after numbers (all_grants records) ≡ numbers ++ map number_of records
+    → AllByRecursion (λ r. AreBelow r.number numbers) records
+    → numbers-after numbers (all_grants records) ≡ numbers ++ map number_of records
 unfolding AreRisingRecords
 all-numbers numbers [] rising some below = sym (append-nil numbers)
 all-numbers numbers (r ∷ records) rising some below =
@@ -102,7 +104,8 @@ printed-one : (width : ℕ) (all : List Granted) (r : EpochRecord) → HasOwn al
 printed-one width all r own =
     let range = range_with_len 0 r.clients in
     let many : length (of_epoch r.number all) ≡ r.clients = ap length own ∙ length-map-range_with_len (grant_at r) 0 r.clients in
-    let names : map (λ (g : Granted). g.name) (of_epoch r.number all) ≡ range = ap (map (λ (g : Granted). g.name)) own ∙ names-given r range in
+    let names : map (λ (g : Granted). g.name) (of_epoch r.number all) ≡ range =
+    ap (map (λ (g : Granted). g.name)) own ∙ names-given r range in
     let counts : counts_of width (map (λ (g : Granted). g.name) (of_epoch r.number all)) ≡ shares r.clients width =
     ap (counts_of width) names ∙ counts-shares width r.clients range (IsPermutation-refl range) in
     λ i. (r.number, many i, counts i)
@@ -113,12 +116,14 @@ printed-each width all [] own = refl
 printed-each width all (r ∷ records) own = λ i. printed-one width all r own.0 i ∷ printed-each width all records own.1 i
 
 -- a check of a written list finds its epochs
-pub printed-back : (most width : ℕ) (records : List EpochRecord) → most ≤ MOST_NAMED → AreTightRecords most records → AllByRecursion (λ r. 0 < r.clients) records
+pub printed-back : (most width : ℕ) (records : List EpochRecord) → most ≤ MOST_NAMED → AreTightRecords most records
+    → AllByRecursion (λ r. 0 < r.clients) records
     → printed_epochs width (records_of (grants_text records)) ≡ map (checked_epoch width) records
 printed-back most width records h tight some =
     let all = all_grants records in
     let spells : grants_spelled (drop 1 (records_of (grants_text records))) ≡ all =
-    ap (λ (l : List Record). grants_spelled (drop 1 l)) (records-back most records h tight) ∙ grants-read all (small-grants most records h tight) in
+    ap (λ (l : List Record). grants_spelled (drop 1 l)) (records-back most records h tight)
+    ∙ grants-read all (small-grants most records h tight) in
     (λ i. map (printed_epoch width (spells i)) (epoch_numbers (spells i)))
     ∙ ap (map (printed_epoch width all)) (all-numbers [] records tight.rising some (none_below records))
     ∙ printed-each width all records (own-grants records tight.rising)
@@ -126,7 +131,8 @@ printed-back most width records h tight some =
 -- ---- any tight list
 
 -- each epoch's names are those below their number, so they are shared out, after any number of clients
-pub tight-after : (most : ℕ) (records : List Record) → IsTightList most records → (w m epoch : ℕ) → counts_after m w (names_in epoch records) ≡ shares_after m (length (names_in epoch records)) w
+pub tight-after : (most : ℕ) (records : List Record) → IsTightList most records → (w m epoch : ℕ)
+    → counts_after m w (names_in epoch records) ≡ shares_after m (length (names_in epoch records)) w
 tight-after most records tight w m epoch =
     let grants = of_epoch epoch (grants_spelled (drop 1 records)) in
     let many : length (names_in epoch records) ≡ length grants = length-map grants (λ (g : Granted). g.name) in

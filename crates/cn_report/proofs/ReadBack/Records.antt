@@ -32,7 +32,8 @@ header_text = refl
 
 line_text : (g : Granted) → IsSmall g → line_of g ≡ row_text default_writer (record_of g)
 unfolding grant_line fields_text is_blank
-line_text g small = rw (decimal_text g.epoch small.epoch, decimal_text g.client small.client, decimal_text g.name small.name) (simp append_assoc refl)
+line_text g small = rw (decimal_text g.epoch small.epoch, decimal_text g.client small.client, decimal_text g.name small.name)
+    (simp append_assoc refl)
 
 unfoldable pub AllSmall : List Granted → Type 0
 AllSmall [] = ⊤
@@ -44,17 +45,24 @@ lines-text [] small = refl
 lines-text (g ∷ gs) small = λ i. line_text g small.0 i ++ lines-text gs small.1 i
 
 -- records that are written are read
-all-back : (records : List Record) (n : ℕ) → length records < n → records_from default_config n st.StartRecord (rows_text records) ≡ map read_back records
+all-back : (records : List Record) (n : ℕ) → length records < n
+    → records_from default_config n st.StartRecord (rows_text records) ≡ map read_back records
 unfolding records_from rows_text next_record
 all-back records zero h = absurd (omega arith)
 all-back [] (suc n) h = refl
-all-back (given ∷ records) (suc n) h = rw (read-write given (rows_text records)) (ap (λ (t : List Record). read_back given ∷ t) (all-back records n (omega arith)))
+all-back (given ∷ records) (suc n) h = rw (read-write given (rows_text records))
+    (ap (λ (t : List Record). read_back given ∷ t) (all-back records n (omega arith)))
 
 -- each takes a byte
 records-few : (records : List Record) → length records ≤ length (rows_text records)
 unfolding rows_text
 records-few [] = omega arith
-records-few (given ∷ records) = omega (arith, records-few records, length-append (row_text default_writer given) (rows_text records), record-some given)
+records-few (given ∷ records) = omega (
+  arith,
+  records-few records,
+  length-append (row_text default_writer given) (rows_text records),
+  record-some given,
+)
   where
     end : Bool → List ℕ
     end blank = if blank then quote_mark ∷ quote_mark ∷ [] else []
@@ -82,9 +90,12 @@ whole gs small = λ i. header_text i ++ lines-text gs small i
 pub grants-back : (gs : List Granted) → AllSmall gs → records_of (grants_header ++ flat_map line_of gs) ≡ header_record ∷ map record_of gs
 grants-back gs small =
     let text : grants_header ++ flat_map line_of gs ≡ rows_text (header_record ∷ map record_of gs) = whole gs small in
-    let back : records_of (grants_header ++ flat_map line_of gs) ≡ records_from default_config (length (grants_header ++ flat_map line_of gs) + 1) st.StartRecord (grants_header ++ flat_map line_of gs) =
+    let back : records_of (grants_header ++ flat_map line_of gs)
+    ≡ records_from default_config (length (grants_header ++ flat_map line_of gs) + 1) st.StartRecord
+    (grants_header ++ flat_map line_of gs) =
     rw (no_mark (flat_map line_of gs)) refl in
     back
     ∙ ap (λ (t : List ℕ). records_from default_config (length t + 1) st.StartRecord t) text
-    ∙ all-back (header_record ∷ map record_of gs) (length (rows_text (header_record ∷ map record_of gs)) + 1) (omega (arith, records-few (header_record ∷ map record_of gs)))
+    ∙ all-back (header_record ∷ map record_of gs) (length (rows_text (header_record ∷ map record_of gs)) + 1)
+    (omega (arith, records-few (header_record ∷ map record_of gs)))
     ∙ ap (λ (l : List Record). header_record ∷ l) (records-read gs)

@@ -27,7 +27,8 @@ own-tight r own = record {
 }
 
 -- each epoch is tight
-pub each-tight : (records : List EpochRecord) → AreRisingRecords records → AllByRecursion HasOwnNames records → (e : ℕ) → AreTightGrants (of_epoch e (all_grants records))
+pub each-tight : (records : List EpochRecord) → AreRisingRecords records → AllByRecursion HasOwnNames records → (e : ℕ)
+    → AreTightGrants (of_epoch e (all_grants records))
 unfolding AreRisingRecords
 each-tight [] rising own e = none-tight
 each-tight (r ∷ records) rising own e = by (eqb_tells r.number e) (each-tight records rising.1 own.1 e)
@@ -54,7 +55,12 @@ small-names : (r : EpochRecord) (from n : ℕ) → HasOwnNames r → from + n �
 unfolding AllSmall
 small-names r from zero own few = tt
 small-names r from (suc n) own few = (
-  record { epoch = own.number; client = small_at r.holders.items from (recursion_from_All (λ client. client < 2 ^ 64) r.holders.items own.clients); name = omega (arith, few) },
+  record {
+    epoch = own.number;
+    client = small_at r.holders.items from
+        (recursion_from_All (λ client. client < 2 ^ 64) r.holders.items own.clients);
+    name = omega (arith, few);
+  },
   small-names r (from + 1) n own (omega (arith, few)),
 )
 
@@ -70,7 +76,8 @@ unfolding NeverFall
 lower low from [] h all = tt
 lower low from (g ∷ gs) h all = (omega (arith, h, all.0), all.1)
 
-all-fall : (low : ℕ) (records : List EpochRecord) → AllByRecursion (λ r. low ≤ r.number) records → AreRisingRecords records → NeverFall low (all_grants records)
+all-fall : (low : ℕ) (records : List EpochRecord) → AllByRecursion (λ r. low ≤ r.number) records → AreRisingRecords records
+    → NeverFall low (all_grants records)
 unfolding NeverFall AreRisingRecords
 all-fall low [] all rising = tt
 all-fall low (r ∷ records) all rising =
@@ -85,7 +92,8 @@ any-number : (records : List EpochRecord) → AllByRecursion (λ r. 0 ≤ r.numb
 any-number [] = tt
 any-number (r ∷ records) = (omega arith, any-number records)
 
-all_small : (records : List EpochRecord) → AllByRecursion HasOwnNames records → length (all_grants records) ≤ 2 ^ 64 → AllSmall (all_grants records)
+all_small : (records : List EpochRecord) → AllByRecursion HasOwnNames records → length (all_grants records) ≤ 2 ^ 64
+    → AllSmall (all_grants records)
 unfolding AllSmall
 all_small [] own few = tt
 all_small (r ∷ records) own few =
@@ -94,16 +102,19 @@ all_small (r ∷ records) own few =
     (small-names r 0 r.clients own.0 (omega (arith, few, size, length-map-range_with_len (grant_at r) 0 r.clients)))
     (all_small records own.1 (omega (arith, few, size)))
 
-pub small-grants : (most : ℕ) (records : List EpochRecord) → most ≤ MOST_NAMED → AreTightRecords most records → AllSmall (all_grants records)
+pub small-grants : (most : ℕ) (records : List EpochRecord) → most ≤ MOST_NAMED → AreTightRecords most records
+    → AllSmall (all_grants records)
 small-grants most records h tight = all_small records tight.names (omega (arith, h, tight.few, grants-many records))
 
 -- the records of the written list, and the grants that they spell
-pub records-back : (most : ℕ) (records : List EpochRecord) → most ≤ MOST_NAMED → AreTightRecords most records → records_of (grants_text records) ≡ header_record ∷ map record_of (all_grants records)
+pub records-back : (most : ℕ) (records : List EpochRecord) → most ≤ MOST_NAMED → AreTightRecords most records
+    → records_of (grants_text records) ≡ header_record ∷ map record_of (all_grants records)
 records-back most records h tight =
     ap (λ (more : List ℕ). records_of (grants_header ++ more)) (lines-of-all records)
     ∙ grants-back (all_grants records) (small-grants most records h tight)
 
-pub written-tight : (most : ℕ) (records : List EpochRecord) → most ≤ MOST_NAMED → AreTightRecords most records → IsTightList most (records_of (grants_text records))
+pub written-tight : (most : ℕ) (records : List EpochRecord) → most ≤ MOST_NAMED → AreTightRecords most records
+    → IsTightList most (records_of (grants_text records))
 written-tight most records h tight =
     let small = small-grants most records h tight in
     let falls = all-fall 0 records (any-number records) tight.rising in

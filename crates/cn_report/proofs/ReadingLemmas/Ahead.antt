@@ -17,13 +17,17 @@ use Rattle.cn_report.proofs.ReadingLemmas.FirstFaults.{stop-other, stop_at}
 use Rattle.cn_report.proofs.ReadingLemmas.RecordLists.{read-first}
 
 -- a stretch that ends so after records that were read
-pub stretch-read : {R : Type 0} (remaining : R → Option (List ℕ)) (old new : Reader R) (heading : Heading) (bounds : Bounds) (text : List ℕ) (before records : List Record) (arrivals : List Arrival) (end : Result Bool BatchCause)
-    → AreSpelled heading bounds records arrivals → HasRead remaining old text (before ++ records) → EndsAfter remaining new heading bounds text (before ++ records) end → HasStretch remaining new heading bounds text before arrivals end
+pub stretch-read : {R : Type 0} (remaining : R → Option (List ℕ)) (old new : Reader R) (heading : Heading) (bounds : Bounds) (text : List ℕ)
+    (before records : List Record) (arrivals : List Arrival) (end : Result Bool BatchCause)
+    → AreSpelled heading bounds records arrivals → HasRead remaining old text (before ++ records)
+    → EndsAfter remaining new heading bounds text (before ++ records) end
+    → HasStretch remaining new heading bounds text before arrivals end
 stretch-read remaining old new heading bounds text before records arrivals end spelled read ends =
     record { records = records; spelled = spelled; first = read-first remaining old text (before ++ records) read; ends = ends }
 
 -- a stretch after which a reader does not go on, and which has no cause, is the last
-pub at-an-end : (end : Result Bool BatchCause) (others goes : Bool) → end ≡ Ok others → goes ≡ false → (end ≡ Ok true → goes ≡ true) → end ≡ Ok false
+pub at-an-end : (end : Result Bool BatchCause) (others goes : Bool) → end ≡ Ok others → goes ≡ false → (end ≡ Ok true → goes ≡ true)
+    → end ≡ Ok false
 at-an-end end true goes is stops so = let both = sym stops ∙ so is in cc
 at-an-end end false goes is stops so = is
 
@@ -49,7 +53,8 @@ module _ {R : Type 0} (remaining : R → Option (List ℕ)) (heading : Heading) 
     pub stretch : HasStretch remaining reader heading bounds text records arrivals end
 
   -- at first only the header was read
-  pub after-header : (reader : Reader R) (g : Gathering) (fields : Record) → HasRead remaining reader text (fields ∷ []) → heading_of fields ≡ Some heading → IsGathered g [] → HasTaken reader g
+  pub after-header : (reader : Reader R) (g : Gathering) (fields : Record) → HasRead remaining reader text (fields ∷ [])
+      → heading_of fields ≡ Some heading → IsGathered g [] → HasTaken reader g
   after-header reader g fields read heads none = record {
     records = fields ∷ [];
     came = [];
@@ -58,7 +63,8 @@ module _ {R : Type 0} (remaining : R → Option (List ℕ)) (heading : Heading) 
     gathered = none;
   }
 
-  pub next-ahead : (old new : ArrivalReader R) → old.heading ≡ heading → old.bounds ≡ bounds → (g : Gathering) (arrivals : List Arrival) (end : Result Bool BatchCause) → HasTaken old.records.value g
+  pub next-ahead : (old new : ArrivalReader R) → old.heading ≡ heading → old.bounds ≡ bounds
+      → (g : Gathering) (arrivals : List Arrival) (end : Result Bool BatchCause) → HasTaken old.records.value g
       → ReadsStretch remaining old new arrivals end → IsAhead new.records.value g arrivals end
   next-ahead old new same-heading same-bounds g arrivals end t reads = record {
     records = t.records;
@@ -68,7 +74,8 @@ module _ {R : Type 0} (remaining : R → Option (List ℕ)) (heading : Heading) 
     stretch = rw (same-heading, same-bounds) at (reads.reads text t.records t.read);
   }
 
-  module _ (reader : Reader R) (g h : Gathering) (arrivals : List Arrival) (end : Result Bool BatchCause) (ahead : IsAhead reader g arrivals end) where
+  module _ (reader : Reader R) (g h : Gathering) (arrivals : List Arrival) (end : Result Bool BatchCause)
+      (ahead : IsAhead reader g arrivals end) where
     module _ (gathers : Gathers bounds arrivals g h (Ok tt)) where
       -- the records then
       abbrev pub records-now : List Record
@@ -91,11 +98,13 @@ module _ {R : Type 0} (remaining : R → Option (List ℕ)) (heading : Heading) 
       }
 
       -- or there are no other records
-      pub at-end : end ≡ Ok false → (records_of text ≡ records-now) × AreTaken heading bounds records-now (ahead.came ++ arrivals) × IsGathered h (ahead.came ++ arrivals)
+      pub at-end : end ≡ Ok false → (records_of text ≡ records-now) × AreTaken heading bounds records-now (ahead.came ++ arrivals)
+          × IsGathered h (ahead.came ++ arrivals)
       at-end e = (rw e at ahead.stretch.ends, both.0, both.1)
 
       -- or the next has a cause
-      pub next-fault : (cause : BatchCause) → end ≡ Err cause → IsBatchFault bounds (records_of text) (record { at = h.next; cause = cause })
+      pub next-fault : (cause : BatchCause) → end ≡ Err cause
+          → IsBatchFault bounds (records_of text) (record { at = h.next; cause = cause })
       next-fault cause e =
           let clean = clean-of heading bounds records-now (ahead.came ++ arrivals) both.0 in
           let (later, first) = ahead.stretch.first in
@@ -111,4 +120,5 @@ module _ {R : Type 0} (remaining : R → Option (List ℕ)) (heading : Heading) 
     pub stretch-fault : (fault : BatchFault) → Gathers bounds arrivals g h (Err fault) → IsBatchFault bounds (records_of text) fault
     stretch-fault fault gathers =
         let (later, first) = ahead.stretch.first in
-        rw first (gathers.answer heading ahead.records ahead.stretch.records later ahead.came ahead.taken ahead.gathered ahead.stretch.spelled)
+        rw first (gathers.answer heading ahead.records ahead.stretch.records later ahead.came ahead.taken ahead.gathered
+        ahead.stretch.spelled)

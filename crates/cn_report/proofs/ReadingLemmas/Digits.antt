@@ -38,14 +38,16 @@ pub record IsLed (ds : List ℕ) (lead : ℕ) (rest : List ℕ) : Type 0 where
 after-weighs : (n : ℕ) (ds : List ℕ) → digits_value_after 10 n ds ≡ n * 10 ^ length ds + digits_value 10 ds
 after-weighs n [] = omega (arith, ap (λ x. n * x) (pow-zero 10))
 after-weighs n (d ∷ ds) =
-    let alone : digits_value 10 (d ∷ ds) ≡ (0 * 10 + digit_value d) * 10 ^ length ds + digits_value 10 ds = after-weighs (0 * 10 + digit_value d) ds in
+    let alone : digits_value 10 (d ∷ ds) ≡ (0 * 10 + digit_value d) * 10 ^ length ds + digits_value 10 ds =
+    after-weighs (0 * 10 + digit_value d) ds in
     omega (arith, after-weighs (n * 10 + digit_value d) ds, alone, ap (λ x. n * x) (pow-succ' 10 (length ds)))
 
 led-by-first : (ds : List ℕ) → length ds ≡ 20 → IsLed ds (get_or ds 0 0) (drop 1 ds)
 led-by-first [] long = absurd (omega arith)
 led-by-first (d ∷ ds) long =
     let others : length ds ≡ 19 = omega arith in
-    let alone : digits_value 10 (d ∷ ds) ≡ (0 * 10 + digit_value d) * 10 ^ length ds + digits_value 10 ds = after-weighs (0 * 10 + digit_value d) ds in
+    let alone : digits_value 10 (d ∷ ds) ≡ (0 * 10 + digit_value d) * 10 ^ length ds + digits_value 10 ds =
+    after-weighs (0 * 10 + digit_value d) ds in
     let all : IsLed (d ∷ ds) d ds = record { all = refl; worth = omega (arith, alone, ap (λ x. digit_value d * 10 ^ x) others) } in
     all
 
@@ -67,7 +69,8 @@ pub record IsWhole (ds : List ℕ) (value : ℕ) : Type 0 where
   pub digits : list_all is_ascii_digit ds ≡ true
   pub worth : digits_value 10 ds ≡ value
 
-pub with_lead : (ds : List ℕ) (lead : ℕ) (rest : List ℕ) (digit value : ℕ) → IsLed ds lead rest → is_ascii_digit lead ≡ true → digit_value lead ≡ digit
+pub with_lead : (ds : List ℕ) (lead : ℕ) (rest : List ℕ) (digit value : ℕ) → IsLed ds lead rest → is_ascii_digit lead ≡ true
+    → digit_value lead ≡ digit
     → Some value ≡ front_value rest → IsWhole ds (10000000000000000000 * digit + value)
 with_lead ds lead rest digit value led is worth some =
     let after = some_is-true _ _ _ some in

@@ -11,14 +11,16 @@ use Rattle.cn_report.proofs.ReadingLemmas.RecordLists.{read-first}
 
 module _ {C : Type 0} (header : Record → Option C) (later : List Record → Record → Option C) where
   -- the cause of a record after the header
-  pub cause_later : (records : List Record) (n : ℕ) → 0 < n → n < length records → cause_by header later records n ≡ later (take n records) (get_or records n [])
+  pub cause_later : (records : List Record) (n : ℕ) → 0 < n → n < length records
+      → cause_by header later records n ≡ later (take n records) (get_or records n [])
   unfolding cause_by
   cause_later records n some h =
       let nonzero : (n == 0) ≡ false = ne_eqb n 0 (λ e. omega (arith, e)) in
       rw (nonzero, lt-ltb n (length records) h) refl
 
   -- the records after it are nothing to a record's cause
-  cause-same : (records more : List Record) (n : ℕ) → n < length records → cause_by header later (records ++ more) n ≡ cause_by header later records n
+  cause-same : (records more : List Record) (n : ℕ) → n < length records
+      → cause_by header later (records ++ more) n ≡ cause_by header later records n
   unfolding cause_by
   cause-same [] more n h = absurd (omega arith)
   cause-same (r ∷ records) more zero h = refl
@@ -29,7 +31,8 @@ module _ {C : Type 0} (header : Record → Option C) (later : List Record → Re
       ∙ sym (cause_later (r ∷ records) (suc n) (omega arith) h)
 
   -- a record after the header is judged after those before it
-  cause-new : (records : List Record) (fields : Record) → 0 < length records → cause_by header later (records ++ fields ∷ []) (length records) ≡ later records fields
+  cause-new : (records : List Record) (fields : Record) → 0 < length records
+      → cause_by header later (records ++ fields ∷ []) (length records) ≡ later records fields
   cause-new records fields some =
       let within : length records < length (records ++ fields ∷ []) = omega (arith, length-append records (fields ∷ [])) in
       cause_later (records ++ fields ∷ []) (length records) some within
@@ -57,18 +60,21 @@ module _ {C : Type 0} (header : Record → Option C) (later : List Record → Re
   clean-header fields e = record { some = omega arith; clean = λ at h. only-header fields at e h }
 
   -- and a record after it
-  pub clean-more : (records : List Record) (fields : Record) → AreClean records → later records fields ≡ None → AreClean (records ++ fields ∷ [])
+  pub clean-more : (records : List Record) (fields : Record) → AreClean records → later records fields ≡ None
+      → AreClean (records ++ fields ∷ [])
   clean-more records fields t e = record {
     some = omega (arith, length-append records (fields ∷ []));
     clean = λ at h. below_more (λ (n : ℕ). cause_by header later (records ++ fields ∷ []) n ≡ None) (length records)
-        (λ n k. cause-same records (fields ∷ []) n k ∙ t.clean n k) (cause-new records fields t.some ∙ e) at (omega (arith, h, length-append records (fields ∷ [])));
+        (λ n k. cause-same records (fields ∷ []) n k ∙ t.clean n k) (cause-new records fields t.some ∙ e) at
+        (omega (arith, h, length-append records (fields ∷ [])));
   }
 
   -- all of them
   pub clean-all : (records : List Record) → AreClean records → IsClean (cause_by header later) records
   clean-all records t at = each (leb_tells (suc at) (length records))
     where
-      each : ((leb (suc at) (length records) ≡ true) × (suc at ≤ length records)) ⊎ ((leb (suc at) (length records) ≡ false) × (length records < suc at)) → cause_by header later records at ≡ None
+      each : ((leb (suc at) (length records) ≡ true) × (suc at ≤ length records))
+          ⊎ ((leb (suc at) (length records) ≡ false) × (length records < suc at)) → cause_by header later records at ≡ None
       each (inl w) = t.clean at (omega (arith, w.1))
       each (inr w) = cause-past records at t.some (omega (arith, w.1))
 
@@ -92,25 +98,34 @@ module _ {C : Type 0} (header : Record → Option C) (later : List Record → Re
 
   module _ (IsOther : C → Type 0) where
     -- there is no record
-    pub nothing : (records : List Record) (why : C) → header [] ≡ Some why → records ≡ [] → IsFirstFault (cause_by header later) IsOther records 0 why
+    pub nothing : (records : List Record) (why : C) → header [] ≡ Some why → records ≡ []
+        → IsFirstFault (cause_by header later) IsOther records 0 why
     unfolding cause_by
     nothing records why none e = rw e (record { within = omega arith; clean = λ at h. absurd (omega arith); reported = inl none })
 
     -- after records without one a record has a cause, whatever comes after it
-    pub stop-in : (all records more : List Record) (fields : Record) (why : C) → AreClean records → all ≡ (records ++ fields ∷ []) ++ more → later records fields ≡ Some why
+    pub stop-in : (all records more : List Record) (fields : Record) (why : C) → AreClean records → all ≡ (records ++ fields ∷ []) ++ more
+        → later records fields ≡ Some why
         → IsFirstFault (cause_by header later) IsOther all (length records) why
     stop-in all records more fields why t is e =
         let size = length-append records (fields ∷ []) in
         rw is (record {
           within = omega (arith, size, length-append (records ++ fields ∷ []) more);
-          clean = λ n h. cause-same (records ++ fields ∷ []) more n (omega (arith, h, size)) ∙ cause-same records (fields ∷ []) n h ∙ t.clean n h;
-          reported = inl (cause-same (records ++ fields ∷ []) more (length records) (omega (arith, size)) ∙ cause-new records fields t.some ∙ e);
+          clean = λ n h. cause-same (records ++ fields ∷ []) more n (omega (arith, h, size)) ∙ cause-same records (fields ∷ []) n h
+              ∙ t.clean n h;
+          reported = inl (cause-same (records ++ fields ∷ []) more (length records) (omega (arith, size)) ∙ cause-new records fields t.some
+              ∙ e);
         })
 
     -- after records without one there is what is no record's fault
-    pub stop-other : (all records more : List Record) (why : C) → AreClean records → all ≡ records ++ more → IsOther why → IsFirstFault (cause_by header later) IsOther all (length records) why
+    pub stop-other : (all records more : List Record) (why : C) → AreClean records → all ≡ records ++ more → IsOther why
+        → IsFirstFault (cause_by header later) IsOther all (length records) why
     stop-other all records more why t is other =
-        rw is (record { within = omega (arith, length-append records more); clean = λ n h. cause-same records more n h ∙ t.clean n h; reported = inr other })
+        rw is (record {
+          within = omega (arith, length-append records more);
+          clean = λ n h. cause-same records more n h ∙ t.clean n h;
+          reported = inr other;
+        })
 
     module _ {R : Type 0} (rem : R → Option (List ℕ)) (reader : Reader R) (text : List ℕ) where
       -- the first record is no header
@@ -122,7 +137,8 @@ module _ {C : Type 0} (header : Record → Option C) (later : List Record → Re
           rw is (record { within = omega arith; clean = λ at h. absurd (omega arith); reported = inl e })
 
       -- the next record has a cause
-      pub stop_at : (records : List Record) (fields : Record) (why : C) → AreClean records → HasRead rem reader text (records ++ fields ∷ []) → later records fields ≡ Some why
+      pub stop_at : (records : List Record) (fields : Record) (why : C) → AreClean records
+          → HasRead rem reader text (records ++ fields ∷ []) → later records fields ≡ Some why
           → IsFirstFault (cause_by header later) IsOther (records_of text) (length records) why
       stop_at records fields why t read e =
           let (more, is) = read-first rem reader text (records ++ fields ∷ []) read in

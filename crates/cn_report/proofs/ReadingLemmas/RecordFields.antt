@@ -22,7 +22,8 @@ three (a ∷ b ∷ []) h = absurd (omega arith)
 three (a ∷ b ∷ c ∷ []) h = refl
 three (a ∷ b ∷ c ∷ d ∷ fields) h = absurd (omega arith)
 
-pub command_of_three : (fields : List (List ℕ)) → length fields ≡ 3 → command_in fields ≡ spelled (get_or fields 0 []) (get_or fields 1 []) (get_or fields 2 [])
+pub command_of_three : (fields : List (List ℕ)) → length fields ≡ 3
+    → command_in fields ≡ spelled (get_or fields 0 []) (get_or fields 1 []) (get_or fields 2 [])
 unfolding command_in
 command_of_three fields h = ap command_in (sym (three fields h))
 
@@ -32,7 +33,8 @@ unfolding grant_spelled
 granted_of_three fields h = ap grant_spelled (sym (three fields h))
 
 pub arrival_of_three : (fields : List (List ℕ)) → length fields ≡ 3
-    → arrival_with_entry fields ≡ arriving (number_in (get_or fields 0 [])) (number_in (get_or fields 1 [])) (number_in (get_or fields 2 []))
+    → arrival_with_entry fields ≡ arriving (number_in (get_or fields 0 [])) (number_in (get_or fields 1 []))
+    (number_in (get_or fields 2 []))
 unfolding arrival_with_entry
 arrival_of_three fields h = ap arrival_with_entry (sym (three fields h))
 
@@ -61,7 +63,8 @@ arrival_of_others (a ∷ b ∷ c ∷ []) h = absurd (h refl)
 arrival_of_others (a ∷ b ∷ c ∷ d ∷ fields) h = refl
 
 pub arrival_of_two : (entries : ℕ) (fields : List (List ℕ)) → length fields ≡ 2
-    → ruled_arrival entries fields ≡ arriving (number_in (get_or fields 0 [])) (number_in (get_or fields 1 [])) (entry_by_rule entries (number_in (get_or fields 1 [])))
+    → ruled_arrival entries fields ≡ arriving (number_in (get_or fields 0 [])) (number_in (get_or fields 1 []))
+    (entry_by_rule entries (number_in (get_or fields 1 [])))
 unfolding ruled_arrival
 arrival_of_two entries [] h = absurd (omega arith)
 arrival_of_two entries (a ∷ []) h = absurd (omega arith)

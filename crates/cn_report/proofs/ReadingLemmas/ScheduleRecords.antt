@@ -14,8 +14,10 @@ pub record AreTaken (records : List Record) (commands : List Command) : Type 0 w
 pub taken-header : (fields : Record) → header_cause fields ≡ None → AreTaken (fields ∷ []) []
 taken-header fields e = record { clean = clean-header header_cause record_cause fields e; spells = refl }
 
-pub taken-next : (records : List Record) (commands : List Command) (fields : Record) (command : Command) (at : ℕ) → length records ≡ at → AreTaken records commands
-    → command_cause at (command_in fields) ≡ None → command_in fields ≡ Ok command → AreTaken (records ++ fields ∷ []) (commands ++ command ∷ [])
+pub taken-next : (records : List Record) (commands : List Command) (fields : Record) (command : Command) (at : ℕ) → length records ≡ at
+    → AreTaken records commands
+    → command_cause at (command_in fields) ≡ None → command_in fields ≡ Ok command
+    → AreTaken (records ++ fields ∷ []) (commands ++ command ∷ [])
 taken-next [] commands fields command at size t e is = absurd (omega (arith, t.clean.some))
 taken-next (r ∷ records) commands fields command at size t e is = record {
   clean = clean-more header_cause record_cause (r ∷ records) fields t.clean (rw size e);
@@ -44,6 +46,7 @@ same [] (other ∷ others) e = cc
 same (command ∷ commands) [] e = cc
 same (command ∷ commands) (other ∷ others) e = ap₂ (λ c cs. c ∷ cs) (ap (head_of command) e) (same commands others (ap tail_of e))
 
-pub one-schedule : {records : List Record} (commands others : List Command) → IsSchedule records commands → IsSchedule records others → commands ≡ others
+pub one-schedule : {records : List Record} (commands others : List Command) → IsSchedule records commands → IsSchedule records others
+    → commands ≡ others
 unfolding spelled
 one-schedule commands others one another = same commands others (sym one.spells ∙ another.spells)

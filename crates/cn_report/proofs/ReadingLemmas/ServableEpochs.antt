@@ -14,14 +14,23 @@ use Rattle.cn_report.proofs.ReadingLemmas.GatheredEpochs.{ended-below, rising_mo
 
 -- no client is few
 none-come : (bounds : Bounds) → MayCome bounds []
-none-come bounds = record { few = omega arith; within = All-nil (λ (c : Client). c.entry < bounds.entries); once = λ client. omega (arith, times-nil client) }
+none-come bounds = record {
+  few = omega arith;
+  within = All-nil (λ (c : Client). c.entry < bounds.entries);
+  once = λ client. omega (arith, times-nil client);
+}
 
 -- at the start
-pub none_kept : (g : Gathering) (bounds : Bounds) → AreBounds bounds → g.ended.items ≡ [] → g.latest.clients.items ≡ [] → g.standing.keys ≡ [] → g.next ≡ 1 → StaysServable bounds g
+pub none_kept : (g : Gathering) (bounds : Bounds) → AreBounds bounds → g.ended.items ≡ [] → g.latest.clients.items ≡ []
+    → g.standing.keys ≡ [] → g.next ≡ 1 → StaysServable bounds g
 unfolding AreRising
 none_kept g bounds within ended clients keys next = record {
   within = within;
-  ended = rw ended (record { rising = tt; some = All-nil (λ (e : BatchEpoch). 0 < length e.clients.items); come = All-nil (λ (e : BatchEpoch). MayCome bounds e.clients.items) });
+  ended = rw ended (record {
+    rising = tt;
+    some = All-nil (λ (e : BatchEpoch). 0 < length e.clients.items);
+    come = All-nil (λ (e : BatchEpoch). MayCome bounds e.clients.items);
+  });
   below = rw ended tt;
   latest = rw clients (none-come bounds);
   standing = rw (keys, clients) refl;
@@ -45,13 +54,16 @@ ended-servable g bounds keeps = by g.latest.clients.items refl
 pub all-ended : (g : Gathering) → clients_of_epochs (ended_after g) ≡ clients_of_epochs g.ended.items + length g.latest.clients.items
 all-ended g = by g.latest.clients.items refl
   where
-    by : (cs : List Client) → g.latest.clients.items ≡ cs → clients_of_epochs (ended_after g) ≡ clients_of_epochs g.ended.items + length g.latest.clients.items
+    by : (cs : List Client) → g.latest.clients.items ≡ cs
+        → clients_of_epochs (ended_after g) ≡ clients_of_epochs g.ended.items + length g.latest.clients.items
     by [] e = rw (le-ltb 0 (length g.latest.clients.items) (omega (arith, ap length e))) (omega (arith, ap length e))
     by (c ∷ cs) e =
-        rw (lt-ltb 0 (length g.latest.clients.items) (omega (arith, ap length e))) (sum_by_push (λ (x : BatchEpoch). length x.clients.items) g.ended.items g.latest)
+        rw (lt-ltb 0 (length g.latest.clients.items) (omega (arith, ap length e)))
+        (sum_by_push (λ (x : BatchEpoch). length x.clients.items) g.ended.items g.latest)
 
 -- once it has come to a later epoch
-pub turned-keeps : (old new : Gathering) (n : ℕ) (bounds : Bounds) → old.latest.number < n → new.ended.items ≡ ended_after old → new.latest.number ≡ n
+pub turned-keeps : (old new : Gathering) (n : ℕ) (bounds : Bounds) → old.latest.number < n → new.ended.items ≡ ended_after old
+    → new.latest.number ≡ n
     → new.latest.clients.items ≡ [] → new.standing.keys ≡ [] → new.next ≡ old.next → StaysServable bounds old → StaysServable bounds new
 turned-keeps old new n bounds h ended number clients keys next keeps = record {
   within = keeps.within;
@@ -68,7 +80,8 @@ absent : (x : ℕ) (ids : List ℕ) → list_any (nat_eq x) ids ≡ false → ti
 absent x [] e = times-nil x
 absent x (y ∷ ids) e = by (nat_eq x y) refl e (λ rest. absent x ids rest)
   where
-    by : (b : Bool) → nat_eq x y ≡ b → (b || list_any (nat_eq x) ids) ≡ false → (list_any (nat_eq x) ids ≡ false → times x ids ≡ 0) → times x (y ∷ ids) ≡ 0
+    by : (b : Bool) → nat_eq x y ≡ b → (b || list_any (nat_eq x) ids) ≡ false → (list_any (nat_eq x) ids ≡ false → times x ids ≡ 0)
+        → times x (y ∷ ids) ≡ 0
     by true is e rest = cc
     by false is e rest =
         let other : ◌≡◌ {A = ℕ} (cond (eqb y x) 1 0) 0 = grind (arith, nat_tests, is) in
@@ -77,17 +90,21 @@ absent x (y ∷ ids) e = by (nat_eq x y) refl e (λ rest. absent x ids rest)
 -- what is known of a client of the latest epoch that has no cause
 new-and-few : (bounds : Bounds) (g : Gathering) (c : Client) → adding_cause bounds g c ≡ None
     → (list_any (nat_eq c.id) g.standing.keys ≡ false) × (length g.latest.clients.items < bounds.clients) × (g.next ≤ bounds.records)
-new-and-few bounds g c none = by (list_any (nat_eq c.id) g.standing.keys) refl (nat_le bounds.clients (length g.latest.clients.items)) refl (nat_lt bounds.records g.next) refl none
+new-and-few bounds g c none = by (list_any (nat_eq c.id) g.standing.keys) refl (nat_le bounds.clients (length g.latest.clients.items)) refl
+    (nat_lt bounds.records g.next) refl none
   where
-    by : (stands : Bool) → list_any (nat_eq c.id) g.standing.keys ≡ stands → (full : Bool) → nat_le bounds.clients (length g.latest.clients.items) ≡ full → (late : Bool) → nat_lt bounds.records g.next ≡ late
-        → adding_cause bounds g c ≡ None → (list_any (nat_eq c.id) g.standing.keys ≡ false) × (length g.latest.clients.items < bounds.clients) × (g.next ≤ bounds.records)
+    by : (stands : Bool) → list_any (nat_eq c.id) g.standing.keys ≡ stands → (full : Bool)
+        → nat_le bounds.clients (length g.latest.clients.items) ≡ full → (late : Bool) → nat_lt bounds.records g.next ≡ late
+        → adding_cause bounds g c ≡ None → (list_any (nat_eq c.id) g.standing.keys ≡ false)
+        × (length g.latest.clients.items < bounds.clients) × (g.next ≤ bounds.records)
     by true is full e late l none = let it = rw is at none in cc
     by false is true e late l none = let it = rw (is, e) at none in cc
     by false is false e true l none = let it = rw (is, e, l) at none in cc
     by false is false e false l none = (is, grind (arith, nat_tests, e), grind (arith, nat_tests, l))
 
 -- a client more of the latest epoch
-pub added-keeps : (old new : Gathering) (bounds : Bounds) (c : Client) → adding_cause bounds old c ≡ None → c.entry < bounds.entries → new.ended ≡ old.ended
+pub added-keeps : (old new : Gathering) (bounds : Bounds) (c : Client) → adding_cause bounds old c ≡ None → c.entry < bounds.entries
+    → new.ended ≡ old.ended
     → new.latest.number ≡ old.latest.number → new.latest.clients.items ≡ old.latest.clients.items ++ c ∷ []
     → new.standing.keys ≡ old.standing.keys ++ c.id ∷ [] → new.next ≡ old.next + 1 → StaysServable bounds old → StaysServable bounds new
 added-keeps old new bounds c none entry ended number clients keys next keeps =
@@ -104,7 +121,14 @@ added-keeps old new bounds c none entry ended number clients keys next keeps =
         once = λ x. rw ids (once_more x (rw keeps.standing at fresh));
       };
       standing = keys ∙ ap (λ (l : List ℕ). l ++ c.id ∷ []) keeps.standing ∙ sym ids;
-      count = omega (arith, next, ap (λ es. clients_of_epochs es.items) ended, ap length clients, length-append old.latest.clients.items (c ∷ []), keeps.count);
+      count = omega (
+        arith,
+        next,
+        ap (λ es. clients_of_epochs es.items) ended,
+        ap length clients,
+        length-append old.latest.clients.items (c ∷ []),
+        keeps.count,
+      );
       few = omega (arith, next, some);
     }
   where

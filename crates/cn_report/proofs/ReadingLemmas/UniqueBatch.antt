@@ -41,10 +41,17 @@ rest_same front front2 back back2 e same =
 
 none_or_some : (e : BatchEpoch) (epochs : List BatchEpoch) → 0 < length e.clients.items → [] ≡ flat_map arrivals_of (e ∷ epochs) → ⊥
 none_or_some e epochs some same =
-    omega (arith, ap length same, length-append (arrivals_of e) (flat_map arrivals_of epochs), length-map e.clients.items (arrival_at e.number), some)
+    omega (
+      arith,
+      ap length same,
+      length-append (arrivals_of e) (flat_map arrivals_of epochs),
+      length-map e.clients.items (arrival_at e.number),
+      some,
+    )
 
 -- two lists of epochs that spell the same arrivals are the same
-pub epochs-same : (xs ys : List BatchEpoch) → AreRising xs → AreRising ys → AllByRecursion (λ e. 0 < length e.clients.items) xs → AllByRecursion (λ e. 0 < length e.clients.items) ys
+pub epochs-same : (xs ys : List BatchEpoch) → AreRising xs → AreRising ys → AllByRecursion (λ e. 0 < length e.clients.items) xs
+    → AllByRecursion (λ e. 0 < length e.clients.items) ys
     → flat_map arrivals_of xs ≡ flat_map arrivals_of ys → map plain_epoch xs ≡ map plain_epoch ys
 unfolding AreRising
 epochs-same [] [] rx ry sx sy same = refl
@@ -52,12 +59,16 @@ epochs-same [] (y ∷ ys) rx ry sx sy same = absurd (none_or_some y ys sy.0 same
 epochs-same (x ∷ xs) [] rx ry sx sy same = absurd (none_or_some x xs sx.0 (sym same))
 epochs-same (x ∷ xs) (y ∷ ys) rx ry sx sy same =
     let number : x.number ≡ y.number =
-    sym (head-number x.number x.clients.items (flat_map arrivals_of xs) sx.0) ∙ ap head-epoch same ∙ head-number y.number y.clients.items (flat_map arrivals_of ys) sy.0 in
-    let firsts : arrivals_of x ≡ arrivals_of y = sym (first-epoch x xs rx.0) ∙ (λ i. of_epoch (number i) (same i)) ∙ first-epoch y ys ry.0 in
+    sym (head-number x.number x.clients.items (flat_map arrivals_of xs) sx.0) ∙ ap head-epoch same
+    ∙ head-number y.number y.clients.items (flat_map arrivals_of ys) sy.0 in
+    let firsts : arrivals_of x ≡ arrivals_of y =
+    sym (first-epoch x xs rx.0) ∙ (λ i. of_epoch (number i) (same i)) ∙ first-epoch y ys ry.0 in
     let clients : x.clients.items ≡ y.clients.items =
     sym (clients-back x.number x.clients.items) ∙ ap (map client_of) firsts ∙ clients-back y.number y.clients.items in
-    let rest = epochs-same xs ys rx.1 ry.1 sx.1 sy.1 (rest_same (arrivals_of x) (arrivals_of y) (flat_map arrivals_of xs) (flat_map arrivals_of ys) firsts same) in
+    let rest = epochs-same xs ys rx.1 ry.1 sx.1 sy.1
+    (rest_same (arrivals_of x) (arrivals_of y) (flat_map arrivals_of xs) (flat_map arrivals_of ys) firsts same) in
     λ i. (number i, clients i) ∷ rest i
 
-pub unique : (xs ys : List BatchEpoch) (arrivals : List Arrival) → AreEpochsOf xs arrivals → AreEpochsOf ys arrivals → map plain_epoch xs ≡ map plain_epoch ys
+pub unique : (xs ys : List BatchEpoch) (arrivals : List Arrival) → AreEpochsOf xs arrivals → AreEpochsOf ys arrivals
+    → map plain_epoch xs ≡ map plain_epoch ys
 unique xs ys arrivals x y = epochs-same xs ys x.rising y.rising x.some y.some (x.spells ∙ sym y.spells)

@@ -11,7 +11,8 @@ use Rattle.cn_report.specs.Writing.Written.{First, HasWritten, Nothing, Whole, W
 -- ---- one piece
 
 -- all that is held is written
-pub written-all : (start now then : Option (List ℕ)) (from to : Pending) (text left : List ℕ) → from.failed ≡ false → Appends now then from.held → to.held ≡ []
+pub written-all : (start now then : Option (List ℕ)) (from to : Pending) (text left : List ℕ) → from.failed ≡ false
+    → Appends now then from.held → to.held ≡ []
     → to.written ≡ from.written + length from.held → IsOnItsWay start now from text left → IsOnItsWay start then to text left
 written-all start now then from to text left ok grew none counted way =
     record {
@@ -24,69 +25,104 @@ written-all start now then from to text left ok grew none counted way =
     }
 
 -- the first bytes of what is held are written, and no more will be
-pub written-some : (start now then : Option (List ℕ)) (from to : Pending) (text left : List ℕ) (count : ℕ) → from.failed ≡ false → to.failed ≡ true → count ≤ length from.held
-    → Appends now then (take count from.held) → to.written ≡ from.written + count → IsOnItsWay start now from text left → IsOnItsWay start then to text left
+pub written-some : (start now then : Option (List ℕ)) (from to : Pending) (text left : List ℕ) (count : ℕ) → from.failed ≡ false
+    → to.failed ≡ true → count ≤ length from.held
+    → Appends now then (take count from.held) → to.written ≡ from.written + count → IsOnItsWay start now from text left
+    → IsOnItsWay start then to text left
 written-some start now then from to text left count ok failed within grew counted way =
     let parts : from.held ++ left ≡ take count from.held ++ (drop count from.held ++ left) =
-    ap (λ (t : List ℕ). t ++ left) (sym (take-append-drop count from.held)) ∙ append_assoc (take count from.held) (drop count from.held) left in
+    ap (λ (t : List ℕ). t ++ left) (sym (take-append-drop count from.held))
+    ∙ append_assoc (take count from.held) (drop count from.held) left in
     record {
       out = way.out ++ take count from.held;
       rest = drop count from.held ++ left;
       grown = Appends-trans start now then way.out (take count from.held) way.grown grew;
       counted = omega (arith, counted, way.counted, within, length-append way.out (take count from.held), length-take count from.held);
-      whole = way.whole ∙ ap (λ (t : List ℕ). way.out ++ t) (way.held ok ∙ parts) ∙ sym (append_assoc way.out (take count from.held) (drop count from.held ++ left));
+      whole = way.whole ∙ ap (λ (t : List ℕ). way.out ++ t) (way.held ok ∙ parts)
+          ∙ sym (append_assoc way.out (take count from.held) (drop count from.held ++ left));
       held = λ still. absurd (let none : true ≡ false = sym failed ∙ still in cc);
     }
 
 -- ---- the end of a text
 
 -- what is written is the first of it
-pub cut-off : {W : Type 0} (contents : W → Option (List ℕ)) (first now : W) (to : Pending) (text left : List ℕ) → IsOnItsWay (contents first) (contents now) to text left
+pub cut-off : {W : Type 0} (contents : W → Option (List ℕ)) (first now : W) (to : Pending) (text left : List ℕ)
+    → IsOnItsWay (contents first) (contents now) to text left
     → HasWritten contents (λ t. t ≡ text) (First to.written) first now
 cut-off contents first now to text left way =
     let front : take to.written text ≡ way.out =
-    ap (λ n. take n text) way.counted ∙ ap (take (length way.out)) way.whole ∙ take-append-le (length way.out) way.out way.rest (omega arith) ∙ take-length way.out in
-    (text, refl, omega (arith, way.counted, ap length way.whole, length-append way.out way.rest), subst (Appends (contents first) (contents now)) (sym front) way.grown)
+    ap (λ n. take n text) way.counted ∙ ap (take (length way.out)) way.whole
+    ∙ take-append-le (length way.out) way.out way.rest (omega arith) ∙ take-length way.out in (
+      text,
+      refl,
+      omega (arith, way.counted, ap length way.whole, length-append way.out way.rest),
+      subst (Appends (contents first) (contents now)) (sym front) way.grown,
+    )
 
 -- all of it, if no write failed
-all-out : (start now : Option (List ℕ)) (to : Pending) (text : List ℕ) (way : IsOnItsWay start now to text []) → to.failed ≡ false → to.held ≡ [] → text ≡ way.out
-all-out start now to text way ok none = way.whole ∙ ap (λ (t : List ℕ). way.out ++ t) (way.held ok ∙ ap (λ (t : List ℕ). t ++ []) none) ∙ append-nil way.out
+all-out : (start now : Option (List ℕ)) (to : Pending) (text : List ℕ) (way : IsOnItsWay start now to text []) → to.failed ≡ false
+    → to.held ≡ [] → text ≡ way.out
+all-out start now to text way ok none = way.whole ∙ ap (λ (t : List ℕ). way.out ++ t) (way.held ok ∙ ap (λ (t : List ℕ). t ++ []) none)
+    ∙ append-nil way.out
 
 -- and also if a flush does
-pub ended : {U W : Type 0} (contents : W → Option (List ℕ)) (first now then : W) (to : Pending) (text : List ℕ) (result : Result U EmitFault) → to.failed ≡ false → to.held ≡ []
-    → IsOnItsWay (contents first) (contents now) to text [] → Keeps (contents now) (contents then) → IfErr result (λ fault. fault.written ≡ to.written)
+pub ended : {U W : Type 0} (contents : W → Option (List ℕ)) (first now then : W) (to : Pending) (text : List ℕ)
+    (result : Result U EmitFault) → to.failed ≡ false → to.held ≡ []
+    → IsOnItsWay (contents first) (contents now) to text [] → Keeps (contents now) (contents then)
+    → IfErr result (λ fault. fault.written ≡ to.written)
     → HasWritten contents (λ t. t ≡ text) (written_by (λ fault. First fault.written) result) first then
 ended contents first now then to text (Ok done) ok none way kept at =
-    let all = all-out (contents first) (contents now) to text way ok none in
-    (text, refl, subst (Appends (contents first) (contents then)) (sym all) (Appends-kept (contents first) (contents now) (contents then) way.out way.grown kept))
+    let all = all-out (contents first) (contents now) to text way ok none in (
+      text,
+      refl,
+      subst (Appends (contents first) (contents then)) (sym all)
+          (Appends-kept (contents first) (contents now) (contents then) way.out way.grown kept),
+    )
 ended contents first now then to text (Err fault) ok none way kept at =
     let all = all-out (contents first) (contents now) to text way ok none in
     let exact : fault.written ≡ length text = at ∙ way.counted ∙ ap length (sym all) in
-    let front : take fault.written text ≡ way.out = ap (λ n. take n text) exact ∙ take-length text ∙ all in
-    (text, refl, omega (arith, exact), subst (Appends (contents first) (contents then)) (sym front) (Appends-kept (contents first) (contents now) (contents then) way.out way.grown kept))
+    let front : take fault.written text ≡ way.out = ap (λ n. take n text) exact ∙ take-length text ∙ all in (
+      text,
+      refl,
+      omega (arith, exact),
+      subst (Appends (contents first) (contents then)) (sym front)
+          (Appends-kept (contents first) (contents now) (contents then) way.out way.grown kept),
+    )
 
 -- ---- parts
 
 -- one part after another
-pub put-then : {W : Type 0} {contents : W → Option (List ℕ)} {a b d : W} {p q r : Pending} {x y : List ℕ} → Puts contents a b p q x → Puts contents b d q r y → Puts contents a d p r (x ++ y)
+pub put-then : {W : Type 0} {contents : W → Option (List ℕ)} {a b d : W} {p q r : Pending} {x y : List ℕ} → Puts contents a b p q x
+    → Puts contents b d q r y → Puts contents a d p r (x ++ y)
 put-then {contents = contents} {a = a} {p = p} {x = x} {y = y} one other = record {
-  goes = λ before text left way. other.goes before text left (one.goes before text (y ++ left) (subst (IsOnItsWay before (contents a) p text) (append_assoc x y left) way));
+  goes = λ before text left way. other.goes before text left
+      (one.goes before text (y ++ left) (subst (IsOnItsWay before (contents a) p text) (append_assoc x y left) way));
 }
 
 -- the same bytes
-pub put-same : {W : Type 0} {contents : W → Option (List ℕ)} {a b : W} {p q : Pending} {x y : List ℕ} → x ≡ y → Puts contents a b p q x → Puts contents a b p q y
+pub put-same : {W : Type 0} {contents : W → Option (List ℕ)} {a b : W} {p q : Pending} {x y : List ℕ} → x ≡ y → Puts contents a b p q x
+    → Puts contents a b p q y
 put-same {contents = contents} {a = a} {b = b} {p = p} {q = q} same puts = subst (Puts contents a b p q) same puts
 
 -- once a write failed, whatever follows is put
-pub put-rest : {W : Type 0} {contents : W → Option (List ℕ)} {a b : W} {p q : Pending} (x y : List ℕ) → q.failed ≡ true → Puts contents a b p q x → Puts contents a b p q (x ++ y)
+pub put-rest : {W : Type 0} {contents : W → Option (List ℕ)} {a b : W} {p q : Pending} (x y : List ℕ) → q.failed ≡ true
+    → Puts contents a b p q x → Puts contents a b p q (x ++ y)
 put-rest {contents = contents} {a = a} {p = p} x y failed puts = record {
   goes = λ before text left way.
       let cut = puts.goes before text (y ++ left) (subst (IsOnItsWay before (contents a) p text) (append_assoc x y left) way) in
-      record { out = cut.out; rest = cut.rest; grown = cut.grown; counted = cut.counted; whole = cut.whole; held = λ still. absurd (let none : true ≡ false = sym failed ∙ still in cc) };
+      record {
+        out = cut.out;
+        rest = cut.rest;
+        grown = cut.grown;
+        counted = cut.counted;
+        whole = cut.whole;
+        held = λ still. absurd (let none : true ≡ false = sym failed ∙ still in cc);
+      };
 }
 
 -- a text that is put from its beginning
-pub put-all : {W : Type 0} {contents : W → Option (List ℕ)} {a b : W} {p q : Pending} {text : List ℕ} → p ≡ nothing_put → Puts contents a b p q text
+pub put-all : {W : Type 0} {contents : W → Option (List ℕ)} {a b : W} {p q : Pending} {text : List ℕ} → p ≡ nothing_put
+    → Puts contents a b p q text
     → IsOnItsWay (contents a) (contents b) q text []
 put-all {contents = contents} {a = a} {p = p} {text = text} fresh puts =
     puts.goes (contents a) text [] (record {
@@ -103,35 +139,43 @@ pub put-none : {W : Type 0} {contents : W → Option (List ℕ)} {a : W} {p : Pe
 put-none = record { goes = λ before text left way. way }
 
 -- the lines of the element at i, after those of the elements before it
-pub put-next : {W : Type 0} {contents : W → Option (List ℕ)} {a b d : W} {p q r : Pending} {X : Type 0} (f : X → List ℕ) (xs : List X) (i : ℕ) (e x : X) → i < length xs → x ≡ get_or xs i e
+pub put-next : {W : Type 0} {contents : W → Option (List ℕ)} {a b d : W} {p q r : Pending} {X : Type 0} (f : X → List ℕ) (xs : List X)
+    (i : ℕ) (e x : X) → i < length xs → x ≡ get_or xs i e
     → Puts contents a b p q (flat_map f (take i xs)) → Puts contents b d q r (f x) → Puts contents a d p r (flat_map f (take (i + 1) xs))
 put-next f xs i e x within is one other =
     let more : flat_map f (take i xs) ++ f x ≡ flat_map f (take (i + 1) xs) =
-    flat_map_more f [] (take i xs) x ∙ ap (λ (y : _). flat_map f (take i xs ++ y ∷ [])) is ∙ ap (flat_map f) (sym (take_more xs i e within)) in
+    flat_map_more f [] (take i xs) x ∙ ap (λ (y : _). flat_map f (take i xs ++ y ∷ [])) is
+    ∙ ap (flat_map f) (sym (take_more xs i e within)) in
     put-same more (put-then one other)
 
 -- after the last those of all
-pub put-last : {W : Type 0} {contents : W → Option (List ℕ)} {a b : W} {p q : Pending} {X : Type 0} (f : X → List ℕ) (xs : List X) (i : ℕ) → length xs ≤ i
+pub put-last : {W : Type 0} {contents : W → Option (List ℕ)} {a b : W} {p q : Pending} {X : Type 0} (f : X → List ℕ) (xs : List X) (i : ℕ)
+    → length xs ≤ i
     → Puts contents a b p q (flat_map f (take i xs)) → Puts contents a b p q (flat_map f xs)
 put-last f xs i over puts = put-same (ap (flat_map f) (take_all i xs over)) puts
 
 -- the line of the number i, after those of the numbers below it
-pub put-line : {W : Type 0} {contents : W → Option (List ℕ)} {a b d : W} {p q r : Pending} (f : ℕ → List ℕ) (i : ℕ) → Puts contents a b p q (flat_map f (range_with_len 0 i)) → Puts contents b d q r (f i)
+pub put-line : {W : Type 0} {contents : W → Option (List ℕ)} {a b d : W} {p q r : Pending} (f : ℕ → List ℕ) (i : ℕ)
+    → Puts contents a b p q (flat_map f (range_with_len 0 i)) → Puts contents b d q r (f i)
     → Puts contents a d p r (flat_map f (range_with_len 0 (i + 1)))
 put-line f i one other =
-    let more : range_with_len 0 (i + 1) ≡ range_with_len 0 i ++ i ∷ [] = rw add-one (range_more 0 i ∙ ap (λ (k : ℕ). range_with_len 0 i ++ k ∷ []) (zero-add i)) in
+    let more : range_with_len 0 (i + 1) ≡ range_with_len 0 i ++ i ∷ [] =
+    rw add-one (range_more 0 i ∙ ap (λ (k : ℕ). range_with_len 0 i ++ k ∷ []) (zero-add i)) in
     put-same (flat_map_more f [] (range_with_len 0 i) i ∙ ap (flat_map f) (sym more)) (put-then one other)
 
 -- those of all numbers below n
-pub put-lines : {W : Type 0} {contents : W → Option (List ℕ)} {a b : W} {p q : Pending} (f : ℕ → List ℕ) (i n : ℕ) → i ≡ n → Puts contents a b p q (flat_map f (range_with_len 0 i))
+pub put-lines : {W : Type 0} {contents : W → Option (List ℕ)} {a b : W} {p q : Pending} (f : ℕ → List ℕ) (i n : ℕ) → i ≡ n
+    → Puts contents a b p q (flat_map f (range_with_len 0 i))
     → Puts contents a b p q (flat_map f (range_with_len 0 n))
 put-lines f i n same puts = put-same (ap (λ k. flat_map f (range_with_len 0 k)) same) puts
 
 -- once a write failed, those of all
-pub put-cut : {W : Type 0} {contents : W → Option (List ℕ)} {a b : W} {p q : Pending} {X : Type 0} (f : X → List ℕ) (xs : List X) (i : ℕ) → q.failed ≡ true
+pub put-cut : {W : Type 0} {contents : W → Option (List ℕ)} {a b : W} {p q : Pending} {X : Type 0} (f : X → List ℕ) (xs : List X) (i : ℕ)
+    → q.failed ≡ true
     → Puts contents a b p q (flat_map f (take i xs)) → Puts contents a b p q (flat_map f xs)
 put-cut f xs i failed puts =
-    put-same (sym (flat_map-append f (take i xs) (drop i xs)) ∙ ap (flat_map f) (take-append-drop i xs)) (put-rest (flat_map f (take i xs)) (flat_map f (drop i xs)) failed puts)
+    put-same (sym (flat_map-append f (take i xs) (drop i xs)) ∙ ap (flat_map f) (take-append-drop i xs))
+    (put-rest (flat_map f (take i xs)) (flat_map f (drop i xs)) failed puts)
 
 -- what is written of a text is written of one with any property that follows
 pub written-map : {W : Type 0} (contents : W → Option (List ℕ)) (P Q : List ℕ → Type 0) (written : Written) (old new : W)

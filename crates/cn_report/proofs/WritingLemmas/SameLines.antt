@@ -7,7 +7,8 @@ use Rattle.cn_ledger.specs.declared.command.Command.TheVariants.{Enter, Step, Tu
 use Rattle.cn_ledger.specs.Answers.{IsSameAnswer}
 use Rattle.cn_report.specs.Writing.Replay.{IsKept, IsWhole, IsWholeKept, answer_line, answer_lines, counts_or_shares, kept_line, kept_lines}
 
-line-same : (width : ℕ) (command : Command) (answer other : Answer) → IsSameAnswer answer other → answer_line width command answer ≡ answer_line width command other
+line-same : (width : ℕ) (command : Command) (answer other : Answer) → IsSameAnswer answer other
+    → answer_line width command answer ≡ answer_line width command other
 unfolding answer_line
 line-same width command (Replied reply) (Replied other) same = ap (λ r. answer_line width command (Replied r)) same
 line-same width command (TurnRefused fault) (TurnRefused other) same = ap (λ f. answer_line width command (TurnRefused f)) same
@@ -21,7 +22,8 @@ line-same width command (Turned r) (TurnRefused other) same = absurd same
 line-same width command (TurnRefused fault) (Replied other) same = absurd same
 line-same width command (TurnRefused fault) (Turned s) same = absurd same
 
-pub lines-same : (width : ℕ) (commands : List Command) (answers others : List Answer) → AllZip IsSameAnswer answers others → answer_lines width commands answers ≡ answer_lines width commands others
+pub lines-same : (width : ℕ) (commands : List Command) (answers others : List Answer) → AllZip IsSameAnswer answers others
+    → answer_lines width commands answers ≡ answer_lines width commands others
 lines-same width [] answers others same = refl
 lines-same width (command ∷ commands) [] [] same = refl
 lines-same width (command ∷ commands) (answer ∷ answers) (other ∷ others) (same, rest) =
@@ -31,7 +33,8 @@ lines-same width (command ∷ commands) (answer ∷ answers) [] same = absurd sa
 
 -- ---- records that leave out their counts
 
-line-kept : (width : ℕ) (command : Command) (answer kept : Answer) → IsKept width answer kept → answer_line width command answer ≡ kept_line width command kept
+line-kept : (width : ℕ) (command : Command) (answer kept : Answer) → IsKept width answer kept
+    → answer_line width command answer ≡ kept_line width command kept
 unfolding answer_line
 line-kept width (Enter client entry) (Replied reply) (Replied kept) same = ap (λ r. answer_line width (Enter client entry) (Replied r)) same
 line-kept width (Step client) (Replied reply) (Replied kept) same = ap (λ r. answer_line width (Step client) (Replied r)) same
@@ -49,7 +52,8 @@ line-kept width command (Turned r) (TurnRefused kept) same = absurd same
 line-kept width command (TurnRefused fault) (Replied kept) same = absurd same
 line-kept width command (TurnRefused fault) (Turned kept) same = absurd same
 
-pub lines-kept : (width : ℕ) (commands : List Command) (answers kept : List Answer) → AllZip (IsKept width) answers kept → answer_lines width commands answers ≡ kept_lines width commands kept
+pub lines-kept : (width : ℕ) (commands : List Command) (answers kept : List Answer) → AllZip (IsKept width) answers kept
+    → answer_lines width commands answers ≡ kept_lines width commands kept
 lines-kept width [] answers kept same = refl
 lines-kept width (command ∷ commands) [] [] same = refl
 lines-kept width (command ∷ commands) (answer ∷ answers) (k ∷ kept) (same, rest) =
@@ -76,7 +80,8 @@ kept-itself width (Turned r) wide (many, holders) =
     )
 
 -- whole answers leave out nothing
-pub kept-whole : (width : ℕ) (answers : List Answer) → 0 < width → AllByRecursion (IsWhole width) answers → AllZip (IsKept width) answers answers × AllByRecursion (IsWholeKept width) answers
+pub kept-whole : (width : ℕ) (answers : List Answer) → 0 < width → AllByRecursion (IsWhole width) answers
+    → AllZip (IsKept width) answers answers × AllByRecursion (IsWholeKept width) answers
 kept-whole width [] wide whole = (tt, tt)
 kept-whole width (answer ∷ answers) wide (here, later) =
     let (same, whole) = kept-itself width answer wide here in
@@ -84,7 +89,8 @@ kept-whole width (answer ∷ answers) wide (here, later) =
     ((same, others), (whole, rest))
 
 -- what holds place by place holds at each place
-pub zipped_at : {A B : Type 0} (R : A → B → Type 0) (xs : List A) (ys : List B) (i : ℕ) (d : A) (e : B) → AllZip R xs ys → i < length ys → R (get_or xs i d) (get_or ys i e)
+pub zipped_at : {A B : Type 0} (R : A → B → Type 0) (xs : List A) (ys : List B) (i : ℕ) (d : A) (e : B) → AllZip R xs ys → i < length ys
+    → R (get_or xs i d) (get_or ys i e)
 zipped_at R [] [] i d e all h = absurd (omega arith)
 zipped_at R [] (y ∷ ys) i d e all h = absurd all
 zipped_at R (x ∷ xs) [] i d e all h = absurd all

@@ -6,4 +6,5 @@ use Rattle.cn_cli.proofs.choices.chosen_options.Goals as goal
 pub returns-in-Err : goal.returns-in-Err
 returns-in-Err c _ =
     let given = rows_of (found_of c.args.options.now) in
-    refused-numbers given c.in-Some.workers c.in-Some-2.hand c.new.result c.in-Err.fault (search rules) (search rules) c.new.ensures.workers c.new.ensures.hand c.in-Err.is
+    refused-numbers given c.in-Some.workers c.in-Some-2.hand c.new.result c.in-Err.fault (search rules) (search rules) c.new.ensures.workers
+    c.new.ensures.hand c.in-Err.is

@@ -35,9 +35,11 @@ returns c =
     let with_replay = with_subcommand with_run replay_words.top in
     let with_check = with_subcommand with_replay check_words.top in
     let run : app_of c.in_ok-renamer.renamer ≡ with_run =
-    taken app_of c.run_command.result _ _ renamer_words run_words c.renamer_command-renamer.ensures c.run_command.ensures c.in_ok-renamer.ensures in
+    taken app_of c.run_command.result _ _ renamer_words run_words c.renamer_command-renamer.ensures c.run_command.ensures
+    c.in_ok-renamer.ensures in
     let replay : app_of c.in_ok-renamer-2.renamer ≡ with_replay =
     taken app_of c.network_command-replay.result _ _ with_run replay_words run c.network_command-replay.ensures c.in_ok-renamer-2.ensures in
     let check : app_of c.in_ok-renamer-3.renamer ≡ with_check =
     taken app_of c.check_command.result _ _ with_replay check_words replay c.check_command.ensures c.in_ok-renamer-3.ensures in
-    IfOk-weaker c.with-4.result _ _ (λ command h. taken app_of c.network_command-show.result _ _ with_check show_words check c.network_command-show.ensures h) c.with-4.ensures
+    IfOk-weaker c.with-4.result _ _ (λ command h.
+    taken app_of c.network_command-show.result _ _ with_check show_words check c.network_command-show.ensures h) c.with-4.ensures

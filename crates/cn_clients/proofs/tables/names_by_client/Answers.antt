@@ -15,10 +15,13 @@ client-low grants k each less =
     subst (λ (x : ℕ). x < length grants) (get_or-map (λ (g : Grant). g.client) grants k no-grant 0 less)
     (low (length grants) (map (λ (g : Grant). g.client) grants) each k (omega (arith, less, length-map grants (λ (g : Grant). g.client))))
 
-clients-differ : (grants : List Grant) (i j : ℕ) → IsEach grants → i < j → j < length grants → (get_or grants i no-grant).client ≢ (get_or grants j no-grant).client
+clients-differ : (grants : List Grant) (i j : ℕ) → IsEach grants → i < j → j < length grants
+    → (get_or grants i no-grant).client ≢ (get_or grants j no-grant).client
 clients-differ grants i j each h less e =
-    differ (length grants) (map (λ (g : Grant). g.client) grants) each i j h (omega (arith, less, length-map grants (λ (g : Grant). g.client)))
-    (get_or-map (λ (g : Grant). g.client) grants i no-grant 0 (omega (arith, h, less)) ∙ e ∙ sym (get_or-map (λ (g : Grant). g.client) grants j no-grant 0 less))
+    differ (length grants) (map (λ (g : Grant). g.client) grants) each i j h
+    (omega (arith, less, length-map grants (λ (g : Grant). g.client)))
+    (get_or-map (λ (g : Grant). g.client) grants i no-grant 0 (omega (arith, h, less)) ∙ e
+    ∙ sym (get_or-map (λ (g : Grant). g.client) grants j no-grant 0 less))
 
 pub index_mut-requires : goal.index_mut-requires
 index_mut-requires c =
@@ -34,10 +37,12 @@ loop-grant-preserved c =
     let inside : g.client < length names = omega (arith, client-low gs at c.requires c.loop-grant-test.true, was.0) in (
       length-set names g.client g.name ∙ was.0,
       λ k now less. elim (cases_lt k at) [
-        | inl l ↦ get_or-set_other names g.client (get_or gs k no-grant).client g.name 0 (clients-differ gs k at c.requires l c.loop-grant-test.true) ∙ was.1 k l less
+        | inl l ↦ get_or-set_other names g.client (get_or gs k no-grant).client g.name 0
+            (clients-differ gs k at c.requires l c.loop-grant-test.true) ∙ was.1 k l less
         | inr h ↦
             let same : k ≡ at = omega (arith, now, h) in
-            ap (λ (i : ℕ). get_or (set names g.client g.name) (get_or gs i no-grant).client 0) same ∙ get_or-set_same names g.client g.name 0 inside ∙ ap (λ (i : ℕ). (get_or gs i no-grant).name) (sym same)
+            ap (λ (i : ℕ). get_or (set names g.client g.name) (get_or gs i no-grant).client 0) same
+            ∙ get_or-set_same names g.client g.name 0 inside ∙ ap (λ (i : ℕ). (get_or gs i no-grant).name) (sym same)
       ],
     )
 
@@ -45,4 +50,5 @@ pub returns-clause-names : goal.returns-clause-names
 returns-clause-names c k d less =
     let gs : List Grant = c.args.grants.now in
     let default = get_or_default gs k d no-grant less in
-    ap (λ (x : Grant). get_or c.loop-grant.names.items x.client 0) default ∙ c.loop-grant.invariant.1 k (omega (arith, less, c.loop-grant-test.false)) less ∙ sym (ap (λ (x : Grant). x.name) default)
+    ap (λ (x : Grant). get_or c.loop-grant.names.items x.client 0) default
+    ∙ c.loop-grant.invariant.1 k (omega (arith, less, c.loop-grant-test.false)) less ∙ sym (ap (λ (x : Grant). x.name) default)

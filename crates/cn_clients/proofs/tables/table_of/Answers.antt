@@ -23,6 +23,9 @@ returns-clause-inverse g c =
     let gs : List Grant = c.in-Some.quiet.did.grants in
     let (clients, are, run) = c.in-Some.ensures.run in
     let each = for-each clients gs (length c.args.entries.now) are.0 run.theirs in
-    let named : IsEachBelow (length gs) (map (λ (x : Grant). x.name) gs) = subst (λ (n : ℕ). IsEachBelow n (map (λ (x : Grant). x.name) gs)) (sym run.theirs.as_many) run.names in
-    inverse gs _ _ each.1 named (c.in-Some-names_by_client.ensures.many ∙ ap (λ (xs : List Grant). length xs) c.grants.ensures) c.in-Ok.ensures
-    (subst (λ (xs : List Grant). All (λ (x : Grant). get_or c.in-Some-names_by_client.names.items x.client 0 ≡ x.name) xs) c.grants.ensures c.in-Some-names_by_client.ensures.names)
+    let named : IsEachBelow (length gs) (map (λ (x : Grant). x.name) gs) =
+    subst (λ (n : ℕ). IsEachBelow n (map (λ (x : Grant). x.name) gs)) (sym run.theirs.as_many) run.names in
+    inverse gs _ _ each.1 named (c.in-Some-names_by_client.ensures.many ∙ ap (λ (xs : List Grant). length xs) c.grants.ensures)
+    c.in-Ok.ensures
+    (subst (λ (xs : List Grant). All (λ (x : Grant). get_or c.in-Some-names_by_client.names.items x.client 0 ≡ x.name) xs) c.grants.ensures
+    c.in-Some-names_by_client.ensures.names)

@@ -19,4 +19,11 @@ returns-clause-differ g c name =
     let by = c.in-Some.ensures in
     let one = ap (λ (t : TakerValue). times name (names_granted t.view.grants)) c.look_at_both_takers-taker.ensures.first in
     let two = ap (λ (t : TakerValue). times name (names_granted t.view.grants)) c.look_at_both_takers-taker.ensures.second in
-    omega (arith, c.look_at_both_takers-taker.ensures.distinct name, one, two, marked-among _ _ _ _ _ by.0 name, marked-among _ _ _ _ _ by.1 name)
+    omega (
+      arith,
+      c.look_at_both_takers-taker.ensures.distinct name,
+      one,
+      two,
+      marked-among _ _ _ _ _ by.0 name,
+      marked-among _ _ _ _ _ by.1 name,
+    )

@@ -14,8 +14,10 @@ returns-clause-all g c =
     let gave = c.in-Some.ensures in
     let one = c.look_at_both-lane.ensures.first in
     let two = c.look_at_both-lane.ensures.second in (
-      gave-still _ _ _ _ _ gave.0 (ap (λ (l : LaneValue). l.home) one) (ap (λ (l : LaneValue). l.yard.lists) one) (ap (λ (l : LaneValue). l.view.grants) one),
-      gave-still _ _ _ _ _ gave.1 (ap (λ (l : LaneValue). l.home) two) (ap (λ (l : LaneValue). l.yard.lists) two) (ap (λ (l : LaneValue). l.view.grants) two),
+      gave-still _ _ _ _ _ gave.0 (ap (λ (l : LaneValue). l.home) one) (ap (λ (l : LaneValue). l.yard.lists) one)
+          (ap (λ (l : LaneValue). l.view.grants) one),
+      gave-still _ _ _ _ _ gave.1 (ap (λ (l : LaneValue). l.home) two) (ap (λ (l : LaneValue). l.yard.lists) two)
+          (ap (λ (l : LaneValue). l.view.grants) two),
     )
 
 pub returns-clause-differ : goal.returns-clause-differ

@@ -6,4 +6,5 @@ use Rattle.cn_exit.proofs.shares.never_rises.Goals as goal
 pub returns : goal.returns
 returns c =
     never_rises-by_tests c.args.counts.now c.is_sorted_by.result
-    (c.is_sorted_by.ensures.cases (λ earlier later. nat_le later earlier) (always_returns_same _ _ _ (λ pair answer after called. search rules)))
+    (c.is_sorted_by.ensures.cases (λ earlier later. nat_le later earlier)
+    (always_returns_same _ _ _ (λ pair answer after called. search rules)))

@@ -35,9 +35,11 @@ module _ (start : Start) (wire b : ℕ) (formed : IsWellFormed start.network.tab
   comes-first n ((token, client) ∷ rest) = by (n % 2) ((n + 1) % 2) (omega arith) (omega arith) (comes-first (n + 1) rest)
     where
       by : (q p : ℕ) → q < 2 → p ≡ 1 - q → comes (n + 1) rest (output_wire t b 0) ≡ every_second p rest
-          → last_on token client (output_wire t b q) (output_wire t b 0) ++ comes (n + 1) rest (output_wire t b 0) ≡ every_second q ((token, client) ∷ rest)
+          → last_on token client (output_wire t b q) (output_wire t b 0) ++ comes (n + 1) rest (output_wire t b 0)
+          ≡ every_second q ((token, client) ∷ rest)
       by zero p small is later = (λ i. here token client (output_wire t b 0) i ++ later i) ∙ rw is refl
-      by (suc zero) p small is later = (λ i. not-here token client (output_wire t b 1) (output_wire t b 0) (λ e. omega (arith, e)) i ++ later i) ∙ rw is refl
+      by (suc zero) p small is later = (λ i. not-here token client (output_wire t b 1) (output_wire t b 0) (λ e. omega (arith, e)) i
+          ++ later i) ∙ rw is refl
       by (suc (suc q)) p small is later = absurd (omega (arith, small))
 
   comes-second : (n : ℕ) (tokens : List (ℕ × ℕ)) → comes n tokens (output_wire t b 1) ≡ every_second (1 - n % 2) tokens
@@ -50,8 +52,10 @@ module _ (start : Start) (wire b : ℕ) (formed : IsWellFormed start.network.tab
   comes-second n ((token, client) ∷ rest) = by (n % 2) ((n + 1) % 2) (omega arith) (omega arith) (comes-second (n + 1) rest)
     where
       by : (q p : ℕ) → q < 2 → p ≡ 1 - q → comes (n + 1) rest (output_wire t b 1) ≡ every_second (1 - p) rest
-          → last_on token client (output_wire t b q) (output_wire t b 1) ++ comes (n + 1) rest (output_wire t b 1) ≡ every_second (1 - q) ((token, client) ∷ rest)
-      by zero p small is later = (λ i. not-here token client (output_wire t b 0) (output_wire t b 1) (λ e. omega (arith, e)) i ++ later i) ∙ rw is refl
+          → last_on token client (output_wire t b q) (output_wire t b 1) ++ comes (n + 1) rest (output_wire t b 1)
+          ≡ every_second (1 - q) ((token, client) ∷ rest)
+      by zero p small is later = (λ i. not-here token client (output_wire t b 0) (output_wire t b 1) (λ e. omega (arith, e)) i ++ later i)
+          ∙ rw is refl
       by (suc zero) p small is later = (λ i. here token client (output_wire t b 1) i ++ later i) ∙ rw is refl
       by (suc (suc q)) p small is later = absurd (omega (arith, small))
 
@@ -59,7 +63,8 @@ module _ (start : Start) (wire b : ℕ) (formed : IsWellFormed start.network.tab
   unfolding comes
   comes-else n [] u first second = refl
   comes-else n ((token, client) ∷ rest) u first second =
-      (λ i. not-here token client (output_wire t b (n % 2)) u (λ e. by (n % 2) (omega arith) (sym e)) i ++ comes-else (n + 1) rest u first second i)
+      (λ i. not-here token client (output_wire t b (n % 2)) u (λ e. by (n % 2) (omega arith) (sym e)) i
+      ++ comes-else (n + 1) rest u first second i)
     where
       by : (q : ℕ) → q < 2 → u ≢ output_wire t b q
       by zero small = first
@@ -104,7 +109,8 @@ module _ (start : Start) (wire b : ℕ) (formed : IsWellFormed start.network.tab
     pub second : on w.tokens (output_wire t b 1) ≡ every_second (1 - n % 2) (on v.tokens wire)
     pub others : (u : ℕ) → u ≢ wire → u ≢ output_wire t b 0 → u ≢ output_wire t b 1 → on w.tokens u ≡ on v.tokens u
 
-  pub dealt : (n : ℕ) (v : View) → Goes v (on v.tokens wire) → ((u : ℕ) → wire < u → on v.tokens u ≡ []) → Dealt v (after_sweep wire (Balancer b) n v) n
+  pub dealt : (n : ℕ) (v : View) → Goes v (on v.tokens wire) → ((u : ℕ) → wire < u → on v.tokens u ≡ [])
+      → Dealt v (after_sweep wire (Balancer b) n v) n
   dealt n v may above =
       let all = all-on n (on v.tokens wire) v may in
       let tokens = on v.tokens wire in
@@ -113,7 +119,10 @@ module _ (start : Start) (wire b : ℕ) (formed : IsWellFormed start.network.tab
         once = all.may.once;
         wires = all.may.wires;
         empty = all.may.on_wire;
-        first = all.others (output_wire t b 0) (λ e. omega (arith, e, forward)) ∙ (λ i. above (output_wire t b 0) (omega (arith, forward)) i ++ comes-first n tokens i);
-        second = all.others (output_wire t b 1) (λ e. omega (arith, e, forward)) ∙ (λ i. above (output_wire t b 1) (omega (arith, forward)) i ++ comes-second n tokens i);
-        others = λ u other one two. all.others u other ∙ (λ i. on v.tokens u ++ comes-else n tokens u one two i) ∙ append-nil (on v.tokens u);
+        first = all.others (output_wire t b 0) (λ e. omega (arith, e, forward))
+            ∙ (λ i. above (output_wire t b 0) (omega (arith, forward)) i ++ comes-first n tokens i);
+        second = all.others (output_wire t b 1) (λ e. omega (arith, e, forward))
+            ∙ (λ i. above (output_wire t b 1) (omega (arith, forward)) i ++ comes-second n tokens i);
+        others = λ u other one two. all.others u other ∙ (λ i. on v.tokens u ++ comes-else n tokens u one two i)
+            ∙ append-nil (on v.tokens u);
       }

@@ -12,7 +12,8 @@ use Rattle.cn_floor.specs.Listed.{placed}
 mutual
   unfolding placed every_second
 
-  pub placed-even : (clients : List ℕ) (first stride n : ℕ) → every_second 0 (placed clients first stride n) ≡ placed clients first (2 * stride) (n - n / 2)
+  pub placed-even : (clients : List ℕ) (first stride n : ℕ)
+      → every_second 0 (placed clients first stride n) ≡ placed clients first (2 * stride) (n - n / 2)
   placed-even clients first stride zero = refl
   placed-even clients first stride (suc n) =
       let many : suc n - suc n / 2 ≡ suc (n / 2) = omega arith in
@@ -20,7 +21,8 @@ mutual
       rw many (ap (λ (es : List (ℕ × ℕ)). (first, slice_index clients first) ∷ es)
       (placed-odd clients (first + stride) stride n ∙ ap (λ (k : ℕ). placed clients k (2 * stride) (n / 2)) to))
 
-  pub placed-odd : (clients : List ℕ) (first stride n : ℕ) → every_second 1 (placed clients first stride n) ≡ placed clients (first + stride) (2 * stride) (n / 2)
+  pub placed-odd : (clients : List ℕ) (first stride n : ℕ)
+      → every_second 1 (placed clients first stride n) ≡ placed clients (first + stride) (2 * stride) (n / 2)
   placed-odd clients first stride zero = refl
   placed-odd clients first stride (suc n) =
       let many : suc n / 2 ≡ n - n / 2 = omega arith in
@@ -28,7 +30,8 @@ mutual
 
 -- where there is at most one it is the first
 pub placed-one : (clients : List ℕ) (first stride n : ℕ) → n < 2
-    → (every_second 0 (placed clients first stride n) ≡ placed clients first stride n) × (every_second 1 (placed clients first stride n) ≡ [])
+    → (every_second 0 (placed clients first stride n) ≡ placed clients first stride n)
+    × (every_second 1 (placed clients first stride n) ≡ [])
 unfolding placed every_second
 placed-one clients first stride zero few = (refl, refl)
 placed-one clients first stride (suc zero) few = (refl, refl)
@@ -41,7 +44,8 @@ placed-many clients first stride (suc n) = ap suc (placed-many clients (first + 
 
 -- one more at the end
 pub placed-more : (clients : List ℕ) (first stride n : ℕ)
-    → placed clients first stride (suc n) ≡ placed clients first stride n ++ (first + stride * n, slice_index clients (first + stride * n)) ∷ []
+    → placed clients first stride (suc n) ≡ placed clients first stride n ++ (first + stride * n, slice_index clients (first + stride * n))
+    ∷ []
 unfolding placed
 placed-more clients first stride zero =
     let at : first ≡ first + stride * 0 = omega arith in
@@ -49,7 +53,8 @@ placed-more clients first stride zero =
 placed-more clients first stride (suc n) =
     let at : first + stride + stride * n ≡ first + stride * suc n = omega arith in
     ap (λ (es : List (ℕ × ℕ)). (first, slice_index clients first) ∷ es)
-    (placed-more clients (first + stride) stride n ∙ ap (λ (k : ℕ). placed clients (first + stride) stride n ++ (k, slice_index clients k) ∷ []) at)
+    (placed-more clients (first + stride) stride n
+    ∙ ap (λ (k : ℕ). placed clients (first + stride) stride n ++ (k, slice_index clients k) ∷ []) at)
 
 -- a part of a group stands in the list
 pub within-part : (x s k m long : ℕ) → 2 * k ≤ m → x + s * m < long → x + 2 * s * k < long
@@ -73,7 +78,8 @@ unfolding every_second
 length-both [] = refl
 length-both (e ∷ rest) = omega (arith, length-both rest)
 
-pub sum-dealt : (f : ℕ × ℕ → ℕ) (q : ℕ) (es : List (ℕ × ℕ)) → q < 2 → sum_by f (every_second q es) + sum_by f (every_second (1 - q) es) ≡ sum_by f es
+pub sum-dealt : (f : ℕ × ℕ → ℕ) (q : ℕ) (es : List (ℕ × ℕ)) → q < 2
+    → sum_by f (every_second q es) + sum_by f (every_second (1 - q) es) ≡ sum_by f es
 sum-dealt f zero es low = sum-both f es
 sum-dealt f (suc zero) es low = omega (arith, sum-both f es)
 sum-dealt f (suc (suc q)) es low = absurd (omega (arith, low))

@@ -42,7 +42,11 @@ nobody-left v wire none = record {
   wires = refl;
   empty = none;
   others = λ u other. refl;
-  grants = ([], sym (append-nil v.grants), subst (λ (es : List (ℕ × ℕ)). AreTheirs es []) (sym none) (record { as_many = refl; as_often = λ client. refl }));
+  grants = (
+    [],
+    sym (append-nil v.grants),
+    subst (λ (es : List (ℕ × ℕ)). AreTheirs es []) (sym none) (record { as_many = refl; as_often = λ client. refl }),
+  );
   in_state = λ some. absurd (omega (arith, some, ap length none));
   nobody = λ _. refl;
 }
@@ -67,12 +71,15 @@ module _ (start : Start) (wire i : ℕ) (formed : IsWellFormed start.network.tab
       let later = all-out (n + 1) rest next (rest-may start wire (Exit i) formed low ends stands n v token client rest may) in
       record {
         may = later.may;
-        others = λ u other. later.others u other ∙ lists-after-on v.tokens token (λ _. []) (λ _ _. refl) u ∙ append-nil (without token (on v.tokens u))
+        others = λ u other. later.others u other ∙ lists-after-on v.tokens token (λ _. []) (λ _ _. refl) u
+            ∙ append-nil (without token (on v.tokens u))
             ∙ others-on v.tokens token client wire rest may.once inside may.on_wire u other;
       }
 
-  pub left-out : (n : ℕ) (v : View) → Leaves v (on v.tokens wire) → 0 < length (on v.tokens wire) → StoodInState start (after_sweep wire (Exit i) n v)
-      → HaveLeft v (after_sweep wire (Exit i) n v) wire (on v.tokens wire) × ((k : ℕ) → times_in (after_sweep wire (Exit i) n v).tokens k ≤ 1)
+  pub left-out : (n : ℕ) (v : View) → Leaves v (on v.tokens wire) → 0 < length (on v.tokens wire)
+      → StoodInState start (after_sweep wire (Exit i) n v)
+      → HaveLeft v (after_sweep wire (Exit i) n v) wire (on v.tokens wire)
+      × ((k : ℕ) → times_in (after_sweep wire (Exit i) n v).tokens k ≤ 1)
   left-out n v may some in_state =
       let tokens = on v.tokens wire in
       let all = all-out n tokens v may in
@@ -95,7 +102,8 @@ module _ (start : Start) (wire i : ℕ) (formed : IsWellFormed start.network.tab
       )
 
 -- grants for two halves are grants for all
-theirs-both : (q : ℕ) (es : List (ℕ × ℕ)) (more most : List Grant) → q < 2 → AreTheirs (every_second (1 - q) es) more → AreTheirs (every_second q es) most → AreTheirs es (more ++ most)
+theirs-both : (q : ℕ) (es : List (ℕ × ℕ)) (more most : List Grant) → q < 2 → AreTheirs (every_second (1 - q) es) more
+    → AreTheirs (every_second q es) most → AreTheirs es (more ++ most)
 theirs-both q es more most low one two = record {
   as_many = omega (arith, length-append more most, one.as_many, two.as_many, length-dealt q es low);
   as_often = λ client. omega (
@@ -112,7 +120,8 @@ pub left-both : (start : Start) (wire b : ℕ) (formed : IsWellFormed start.netw
     (ends : end_of start.network.table wire ≡ Balancer b) (stands : Stands start.network.table (Balancer b))
     (n : ℕ) (v mid w : View) → MayGo start wire (Balancer b) formed low ends stands v (on v.tokens wire) → 0 < length (on v.tokens wire)
     → ((u : ℕ) → wire < u → on v.tokens u ≡ []) → StoodInState start (after_sweep wire (Balancer b) n v)
-    → HaveLeft (after_sweep wire (Balancer b) n v) mid (output_wire start.network.table b 1) (on (after_sweep wire (Balancer b) n v).tokens (output_wire start.network.table b 1))
+    → HaveLeft (after_sweep wire (Balancer b) n v) mid (output_wire start.network.table b 1)
+    (on (after_sweep wire (Balancer b) n v).tokens (output_wire start.network.table b 1))
     → HaveLeft mid w (output_wire start.network.table b 0) (on mid.tokens (output_wire start.network.table b 0))
     → HaveLeft v w wire (on v.tokens wire)
 left-both start wire b formed low ends stands n v mid w may some above in_state one two =
@@ -150,20 +159,25 @@ left-both start wire b formed low ends stands n v mid w may some above in_state 
       others = λ u other. by u other (cases_eq u out0) (cases_eq u out1) two one is forward;
       grants = (
         more ++ most,
-        grew2 ∙ ap (λ (gs : List Grant). gs ++ most) (grew ∙ ap (λ (gs : List Grant). gs ++ more) (grants-kept b n tokens v)) ∙ append_assoc v.grants more most,
+        grew2 ∙ ap (λ (gs : List Grant). gs ++ most) (grew ∙ ap (λ (gs : List Grant). gs ++ more) (grants-kept b n tokens v))
+            ∙ append_assoc v.grants more most,
         theirs-both (n % 2) tokens more most (omega arith) first second,
       );
       in_state = λ _. subst (λ (s : Start). StoodInState s w) (sym may.of) last;
       nobody = λ none. absurd (omega (arith, some, none));
     }
   where
-    by : (u : ℕ) → u ≢ wire → (u ≡ output_wire start.network.table b 0) ⊎ (u ≢ output_wire start.network.table b 0) → (u ≡ output_wire start.network.table b 1) ⊎ (u ≢ output_wire start.network.table b 1)
+    by : (u : ℕ) → u ≢ wire → (u ≡ output_wire start.network.table b 0) ⊎ (u ≢ output_wire start.network.table b 0)
+        → (u ≡ output_wire start.network.table b 1) ⊎ (u ≢ output_wire start.network.table b 1)
         → HaveLeft mid w (output_wire start.network.table b 0) (on mid.tokens (output_wire start.network.table b 0))
-        → HaveLeft (after_sweep wire (Balancer b) n v) mid (output_wire start.network.table b 1) (on (after_sweep wire (Balancer b) n v).tokens (output_wire start.network.table b 1))
+        → HaveLeft (after_sweep wire (Balancer b) n v) mid (output_wire start.network.table b 1)
+        (on (after_sweep wire (Balancer b) n v).tokens (output_wire start.network.table b 1))
         → Dealt start wire b formed low ends stands v (after_sweep wire (Balancer b) n v) n → wire < start.network.table.entries + 2 * b
         → on w.tokens u ≡ on v.tokens u
     by u other (inl zero_th) any two one is forward =
-        subst (λ (x : ℕ). on w.tokens x ≡ on v.tokens x) (sym zero_th) (two.empty ∙ sym (above (output_wire start.network.table b 0) (omega (arith, forward))))
+        subst (λ (x : ℕ). on w.tokens x ≡ on v.tokens x) (sym zero_th)
+        (two.empty ∙ sym (above (output_wire start.network.table b 0) (omega (arith, forward))))
     by u other (inr not0) (inl first) two one is forward =
-        two.others u not0 ∙ subst (λ (x : ℕ). on mid.tokens x ≡ on v.tokens x) (sym first) (one.empty ∙ sym (above (output_wire start.network.table b 1) (omega (arith, forward))))
+        two.others u not0 ∙ subst (λ (x : ℕ). on mid.tokens x ≡ on v.tokens x) (sym first)
+        (one.empty ∙ sym (above (output_wire start.network.table b 1) (omega (arith, forward))))
     by u other (inr not0) (inr not1) two one is forward = two.others u not0 ∙ one.others u not1 ∙ is.others u other not0 not1

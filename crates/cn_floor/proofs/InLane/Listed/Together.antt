@@ -22,8 +22,10 @@ pub record GoTogether (start : Start) (wire : ℕ) (end : End) (n : ℕ) (v w : 
   pub went : w ≡ after_sweep wire end n v
   pub by : AreLetBy start v w wire end n
 
-pub together : (start : Start) (wire : ℕ) (end : End) (n : ℕ) (v w : View) → IsStart start → v.start ≡ start → length v.tokens ≡ length start.network.table.ends
-    → wire < length start.network.table.ends → ((k : ℕ) → times_in v.tokens k ≤ 1) → ((u : ℕ) → wire < u → on v.tokens u ≡ []) → 0 < length (on v.tokens wire)
+pub together : (start : Start) (wire : ℕ) (end : End) (n : ℕ) (v w : View) → IsStart start → v.start ≡ start
+    → length v.tokens ≡ length start.network.table.ends
+    → wire < length start.network.table.ends → ((k : ℕ) → times_in v.tokens k ≤ 1) → ((u : ℕ) → wire < u → on v.tokens u ≡ [])
+    → 0 < length (on v.tokens wire)
     → end_of start.network.table wire ≡ end → Stands start.network.table end → w ≡ after_sweep wire end n v → AreLetBy start v w wire end n
     → GoTogether start wire end n v w
 together start wire end n v w began of wires low once above some ends stands went by = record {
@@ -48,7 +50,15 @@ module _ (start : Start) (wire b n : ℕ) (v w : View) (go : GoTogether start wi
   pub kin-so : IsKin v w
   kin-so =
       let like = kin-by (Balancer b) n (on v.tokens wire) v in
-      subst (λ (x : View). IsKin v x) (sym go.went) (record { start = like.start; quota = like.quota; entries = like.entries; came = like.came; seen = like.seen; loads = like.loads })
+      subst (λ (x : View). IsKin v x) (sym go.went)
+      (record {
+        start = like.start;
+        quota = like.quota;
+        entries = like.entries;
+        came = like.came;
+        seen = like.seen;
+        loads = like.loads;
+      })
 
   pub grants-so : w.grants ≡ v.grants
   grants-so = ap (λ (x : View). x.grants) go.went ∙ grants-kept b n (on v.tokens wire) v
@@ -61,7 +71,8 @@ module _ (start : Start) (wire b n : ℕ) (v w : View) (go : GoTogether start wi
 
   -- nobody stands above the second output
   pub above-second : (u : ℕ) → output_wire start.network.table b 1 < u → on w.tokens u ≡ []
-  above-second u more = dealt-so.others u (λ e. omega (arith, e, more, forward)) (λ e. omega (arith, e, more)) (λ e. omega (arith, e, more)) ∙ go.above u (omega (arith, more, forward))
+  above-second u more = dealt-so.others u (λ e. omega (arith, e, more, forward)) (λ e. omega (arith, e, more)) (λ e. omega (arith, e, more))
+      ∙ go.above u (omega (arith, more, forward))
 
   -- nor above the first, once those of the second have left
   pub above-first : (mid : View) → HaveLeft w mid (output_wire start.network.table b 1) (on w.tokens (output_wire start.network.table b 1))
@@ -81,7 +92,8 @@ module _ (start : Start) (wire b n : ℕ) (v w : View) (go : GoTogether start wi
   left-so mid x one two =
       left-both start wire b go.formed go.low go.ends go.stands n v mid x go.may go.some go.above
       (subst (λ (y : View). StoodInState start y) go.went (state-after _ _ _ _ go.by.step))
-      (subst (λ (y : View). HaveLeft y mid (output_wire start.network.table b 1) (on y.tokens (output_wire start.network.table b 1))) go.went one) two
+      (subst (λ (y : View). HaveLeft y mid (output_wire start.network.table b 1) (on y.tokens (output_wire start.network.table b 1)))
+      go.went one) two
 
 -- ---- one token by itself
 
@@ -95,14 +107,17 @@ one-second (e ∷ d ∷ rest) one = absurd (omega (arith, one))
 pub record GoesOnByItself (start : Start) (wire b q : ℕ) (v w : View) : Type 0 where
   pub to : on w.tokens (output_wire start.network.table b q) ≡ on v.tokens wire
   pub above : (u : ℕ) → output_wire start.network.table b q < u → on w.tokens u ≡ []
-  pub left : (x : View) → HaveLeft w x (output_wire start.network.table b q) (on w.tokens (output_wire start.network.table b q)) → HaveLeft v x wire (on v.tokens wire)
+  pub left : (x : View) → HaveLeft w x (output_wire start.network.table b q) (on w.tokens (output_wire start.network.table b q))
+      → HaveLeft v x wire (on v.tokens wire)
 
-pub goes-on-by-itself : (start : Start) (wire b n : ℕ) (v w : View) → GoTogether start wire (Balancer b) n v w → length (on v.tokens wire) ≡ 1 → GoesOnByItself start wire b (n % 2) v w
+pub goes-on-by-itself : (start : Start) (wire b n : ℕ) (v w : View) → GoTogether start wire (Balancer b) n v w
+    → length (on v.tokens wire) ≡ 1 → GoesOnByItself start wire b (n % 2) v w
 goes-on-by-itself start wire b n v w go one =
     let is = dealt-so start wire b n v w go in
     by (n % 2) (omega arith) is.first is.second
   where
-    by : (q : ℕ) → q < 2 → on w.tokens (output_wire start.network.table b 0) ≡ every_second q (on v.tokens wire) → on w.tokens (output_wire start.network.table b 1) ≡ every_second (1 - q) (on v.tokens wire)
+    by : (q : ℕ) → q < 2 → on w.tokens (output_wire start.network.table b 0) ≡ every_second q (on v.tokens wire)
+        → on w.tokens (output_wire start.network.table b 1) ≡ every_second (1 - q) (on v.tokens wire)
         → GoesOnByItself start wire b q v w
     by zero low first second =
         let none : on w.tokens (output_wire start.network.table b 1) ≡ [] = second ∙ (one-second (on v.tokens wire) one).1 in
@@ -118,7 +133,8 @@ goes-on-by-itself start wire b n v w go one =
       to = second ∙ (one-second (on v.tokens wire) one).0;
       above = above-second start wire b n v w go;
       left = λ x left. left-so start wire b n v w go x x left
-          (nobody-left x (output_wire start.network.table b 0) (left.others (output_wire start.network.table b 0) (λ e. omega (arith, e)) ∙ first ∙ (one-second (on v.tokens wire) one).1));
+          (nobody-left x (output_wire start.network.table b 0)
+          (left.others (output_wire start.network.table b 0) (λ e. omega (arith, e)) ∙ first ∙ (one-second (on v.tokens wire) one).1));
     }
     by (suc (suc q)) low first second = absurd (omega (arith, low))
 
@@ -128,7 +144,8 @@ module _ (start : Start) (wire i n : ℕ) (v w : View) (go : GoTogether start wi
 
   pub left-by : Ends w
   left-by = subst Ends (sym go.went)
-      (left-out start wire i go.formed go.low go.ends go.stands n v go.may go.some (subst (λ (y : View). StoodInState start y) go.went (state-after _ _ _ _ go.by.step)))
+      (left-out start wire i go.formed go.low go.ends go.stands n v go.may go.some
+      (subst (λ (y : View). StoodInState start y) go.went (state-after _ _ _ _ go.by.step)))
 
   pub grants-by : w.grants ≡ v.grants ++ grants_out start.network.table.width (base start) i n (on v.tokens wire)
   grants-by = ap (λ (x : View). x.grants) go.went ∙ grants-left i n (on v.tokens wire) v

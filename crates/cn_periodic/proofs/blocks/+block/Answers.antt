@@ -8,7 +8,8 @@ pub join_all-requires : goal.join_all-requires
 join_all-requires t c =
     let asked =
     two-asked c.args.draft.now c.args.wires.now c.deref.result.now c.deref-then-wires-eq2.result.now
-    (c.deref.ensures.value ∙ c.in_ok-a.ensures) (c.deref-then-wires-eq2.ensures.value ∙ c.in_ok-b.ensures) c.requires.row c.requires.loose in
+    (c.deref.ensures.value ∙ c.in_ok-a.ensures) (c.deref-then-wires-eq2.ensures.value ∙ c.in_ok-b.ensures) c.requires.row
+    c.requires.loose in
     record { same = asked.0; room = asked.1; loose = asked.2 }
 
 pub returns-then-wires-eq2-clause-built : goal.returns-then-wires-eq2-clause-built
@@ -16,14 +17,16 @@ returns-then-wires-eq2-clause-built t c =
     let a = c.deref.ensures.value ∙ c.in_ok-a.ensures in
     let b = c.deref-then-wires-eq2.ensures.value ∙ c.in_ok-b.ensures in
     let made = c.join_all.ensures in
-    all_ok c.join_all.result _ _ _ _ (λ y wires built flow. gives_one y.items a b c.if-wires-eq2.true wires built flow) made.wires made.built made.flow
+    all_ok c.join_all.result _ _ _ _ (λ y wires built flow. gives_one y.items a b c.if-wires-eq2.true wires built flow) made.wires
+    made.built made.flow
 
 pub returns-then-wires-eq2-clause-order : goal.returns-then-wires-eq2-clause-order
 returns-then-wires-eq2-clause-order t c =
     let a = c.deref.ensures.value ∙ c.in_ok-a.ensures in
     let b = c.deref-then-wires-eq2.ensures.value ∙ c.in_ok-b.ensures in
     let made = c.join_all.ensures in
-    all_ok c.join_all.result _ _ _ _ (λ y wires plan built. orders-one c.args.draft.now c.args.wires.now y.items a b c.if-wires-eq2.true wires plan) made.wires made.plan made.built
+    all_ok c.join_all.result _ _ _ _ (λ y wires plan built.
+    orders-one c.args.draft.now c.args.wires.now y.items a b c.if-wires-eq2.true wires plan) made.wires made.plan made.built
 
 pub block-requires : goal.block-requires
 block-requires t c =
@@ -41,7 +44,8 @@ block-requires-2 t c =
     (omega (arith, asked.0, c.decreases), asked.1)
 
 -- both inner blocks
-inner : (t : ℕ) (c : In_ok-z2 t) → (n : ℕ) × InnerBlocks c.args.draft.now c.block.new.draft c.block-2.new.draft c.args.wires.now c.in_ok-z.z.items c.in_ok-z2.z2.items n
+inner : (t : ℕ) (c : In_ok-z2 t) → (n : ℕ)
+    × InnerBlocks c.args.draft.now c.block.new.draft c.block-2.new.draft c.args.wires.now c.in_ok-z.z.items c.in_ok-z2.z2.items n
 inner t c =
     let a = c.deref-2.ensures.value ∙ c.in_ok-a.ensures in
     let b = c.deref-3.ensures.value ∙ c.in_ok-b.ensures in

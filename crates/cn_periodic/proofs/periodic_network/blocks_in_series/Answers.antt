@@ -3,13 +3,16 @@ use Rattle.cn_periodic.proofs.Series.{next-asked, series-all, series-more, serie
 use Rattle.cn_periodic.proofs.periodic_network.blocks_in_series.Goals as goal
 
 pub loop-done-init : goal.loop-done-init
-loop-done-init c = series-none c.in_ok-outputs.outputs.items c.args.level (c.in_ok-outputs.ensures.items_if_clones_equal (λ a b e. e)) c.requires.row
+loop-done-init c = series-none c.in_ok-outputs.outputs.items c.args.level (c.in_ok-outputs.ensures.items_if_clones_equal (λ a b e. e))
+    c.requires.row
 
 pub block-requires-clause-row : goal.block-requires-clause-row
-block-requires-clause-row c = rw c.deref.ensures.value (next-asked c.loop-done-test.true c.requires.room c.requires.loose c.loop-done.invariant).0
+block-requires-clause-row c = rw c.deref.ensures.value
+    (next-asked c.loop-done-test.true c.requires.room c.requires.loose c.loop-done.invariant).0
 
 pub block-requires-clause-loose : goal.block-requires-clause-loose
-block-requires-clause-loose c = rw c.deref.ensures.value (next-asked c.loop-done-test.true c.requires.room c.requires.loose c.loop-done.invariant).1
+block-requires-clause-loose c = rw c.deref.ensures.value
+    (next-asked c.loop-done-test.true c.requires.room c.requires.loose c.loop-done.invariant).1
 
 pub loop-done-preserved : goal.loop-done-preserved
 loop-done-preserved c =

@@ -11,7 +11,12 @@ split-requires-clause-part g t c =
     let epochs = c.args.epochs.now in
     let all = c.requires.epochs.all in (
       omega (arith, all, c.cut-at.ensures.clients, sum_by-take-le (λ (e : BatchEpoch). length e.clients.items) epochs c.cut-at.result.0),
-      omega (arith, all, some-client epochs (omega (arith, c.workers_that_pay-workers.ensures, c.if-workers-lt2.false)) c.requires.epochs.some),
+      omega (
+        arith,
+        all,
+        some-client epochs (omega (arith, c.workers_that_pay-workers.ensures, c.if-workers-lt2.false))
+            c.requires.epochs.some,
+      ),
     )
 
 pub join_mut-one-requires-after_bounds : goal.join_mut-one-requires-after_bounds
@@ -23,10 +28,14 @@ join_mut-one-requires-after_bounds g t c κs within =
     let n : ℕ = length c.split_at_mut-front.result.1.now in
     let is : m ≡ c.cut-at.result.1 = search rules in
     let both : m + n ≡ length c.args.holders.now = search rules in
-    let first : MayRunAll entries (take at epochs) m = may-front entries epochs (length c.args.holders.now) at m c.requires.epochs (omega (arith, is, c.cut-at.ensures.clients)) in
-    let second : MayRunAll entries (drop at epochs) n = may-back entries epochs (length c.args.holders.now) at m c.requires.epochs (omega (arith, is, c.cut-at.ensures.clients)) n both in
-    let front : MayRunAll entries c.split_at.result.0.now m = subst (λ (es : List BatchEpoch). MayRunAll entries es m) (sym c.split_at.ensures.front) first in
-    let back : MayRunAll entries c.split_at.result.1.now n = subst (λ (es : List BatchEpoch). MayRunAll entries es n) (sym c.split_at.ensures.back) second in
+    let first : MayRunAll entries (take at epochs) m =
+    may-front entries epochs (length c.args.holders.now) at m c.requires.epochs (omega (arith, is, c.cut-at.ensures.clients)) in
+    let second : MayRunAll entries (drop at epochs) n =
+    may-back entries epochs (length c.args.holders.now) at m c.requires.epochs (omega (arith, is, c.cut-at.ensures.clients)) n both in
+    let front : MayRunAll entries c.split_at.result.0.now m =
+    subst (λ (es : List BatchEpoch). MayRunAll entries es m) (sym c.split_at.ensures.front) first in
+    let back : MayRunAll entries c.split_at.result.1.now n =
+    subst (λ (es : List BatchEpoch). MayRunAll entries es n) (sym c.split_at.ensures.back) second in
     search rules
 
 pub returns : goal.returns

@@ -20,7 +20,8 @@ loop-epoch-init g c = record {
   runner = ap (runner_after c.args.first) (sym c.none-receipts.ensures);
   at = search rules;
   places = c.requires.epochs.all;
-  walked = subst (λ (floors : List QuietValue). HaveWalked c.args.crew c.args.first [] floors []) (sym c.none-receipts.ensures) (none-walked c.args.crew c.args.first);
+  walked = subst (λ (floors : List QuietValue). HaveWalked c.args.crew c.args.first [] floors []) (sym c.none-receipts.ensures)
+      (none-walked c.args.crew c.args.first);
 }
 
 pub loop-epoch-preserved : goal.loop-epoch-preserved
@@ -56,7 +57,14 @@ loop-epoch-preserved g c =
           ∙ ap (runner_after runner) (sym c.and-receipts.ensures);
       at = omega (arith, before.at, more, c.len.ensures);
       places = same_len_mid at (at + c.len.result - at) old own
-          (omega (arith, c.len.ensures, many, fits, length-drop at old, length-take-le (at + c.len.result - at) (drop at old) (omega (arith, c.len.ensures, many, fits, length-drop at old))))
+          (omega (
+            arith,
+            c.len.ensures,
+            many,
+            fits,
+            length-drop at old,
+            length-take-le (at + c.len.result - at) (drop at old) (omega (arith, c.len.ensures, many, fits, length-drop at old)),
+          ))
           ∙ before.places;
       walked = subst (λ (z : List BatchEpoch × List QuietValue × List ℕ). HaveWalked c.args.crew runner z.0 z.1 z.2)
           (λ x. (front x, sym c.and-receipts.ensures x, sym written x)) both;
@@ -80,5 +88,6 @@ serve_epoch-requires-clause-few g c κs within =
       c.requires.epochs.few,
       c.requires.epochs.all,
       sum_by-take-le (λ (e : BatchEpoch). length e.clients.items) c.args.epochs.now c.loop-epoch.epoch-index,
-      few-came c.args.first (take c.loop-epoch.epoch-index c.args.epochs.now) c.loop-epoch.receipts before.walked.began before.walked.walked,
+      few-came c.args.first (take c.loop-epoch.epoch-index c.args.epochs.now) c.loop-epoch.receipts before.walked.began
+          before.walked.walked,
     )

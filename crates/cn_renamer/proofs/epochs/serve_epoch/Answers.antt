@@ -23,7 +23,8 @@ returns-in-Ok-clause-walked g c =
     let run : IsRunAfter c.args.runner.words c.args.epoch.now.clients.items closed =
     subst (λ (clients : List Client). IsRunAfter c.args.runner.words clients closed) c.deref.ensures.value
     (subst (λ r. IfOk r (λ q. IsRunAfter c.args.runner.words c.deref.result.now q)) c.in-Ok.is c.run-runner.ensures.run) in
-    subst (λ (floors : List QuietValue). HaveWalked c.args.crew c.args.runner (c.args.epoch.now ∷ []) floors holders) (sym c.receipt.ensures)
+    subst (λ (floors : List QuietValue). HaveWalked c.args.crew c.args.runner (c.args.epoch.now ∷ []) floors holders)
+    (sym c.receipt.ensures)
     (one-walked c.args.crew c.args.runner c.args.epoch.now closed holders run c.list_holders.ensures (λ worker hand.
     let order : AreInOrder 0 c.args.epoch.now.clients.items closed.did.grants =
     subst (λ (clients : List Client). AreInOrder 0 clients closed.did.grants) c.deref.ensures.value

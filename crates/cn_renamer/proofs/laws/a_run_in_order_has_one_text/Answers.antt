@@ -7,4 +7,5 @@ use Rattle.cn_renamer.proofs.laws.a_run_in_order_has_one_text.Goals as goal
 pub returns : goal.returns
 returns c net form carry large bytes text other one another =
     one-text-in-order net form carry large bytes text other one another
-    (c.batch_is_one.ensures (bounds_of large (entries_of net.kind net.width)) (records_of bytes) one.run.epochs another.run.epochs one.run.batch another.run.batch)
+    (c.batch_is_one.ensures (bounds_of large (entries_of net.kind net.width)) (records_of bytes) one.run.epochs another.run.epochs
+    one.run.batch another.run.batch)

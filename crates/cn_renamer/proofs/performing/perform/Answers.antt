@@ -15,12 +15,15 @@ returns-in_ok-check-in-Check-clause-written g c = rw c.in-Check.is c.in_ok-check
 
 pub returns-in_err-serve_with_receipts-in-Run-clause-written : goal.returns-in_err-serve_with_receipts-in-Run-clause-written
 returns-in_err-serve_with_receipts-in-Run-clause-written g c =
-    let fault = err_from_is_err_and c.from_residual-in_err-serve_with_receipts-in-Run.result c.from_residual-in_err-serve_with_receipts-in-Run.ensures.1 in
+    let fault = err_from_is_err_and c.from_residual-in_err-serve_with_receipts-in-Run.result
+    c.from_residual-in_err-serve_with_receipts-in-Run.ensures.1 in
     let ran = c.in_err-serve_with_receipts-in-Run.ensures in
     rw (c.in-Run.is, fault.1, fault.2) (
-    run-as-asked g.W.Write.contents c.args.writer.now c.serve_with_receipts.new.writer c.in-Run.options (g.I.Read.remaining c.args.reader) (until_serve c.in_err-serve_with_receipts-in-Run.field-0.0) ran.headline (ran.in_order refl))
+    run-as-asked g.W.Write.contents c.args.writer.now c.serve_with_receipts.new.writer c.in-Run.options (g.I.Read.remaining c.args.reader)
+    (until_serve c.in_err-serve_with_receipts-in-Run.field-0.0) ran.headline (ran.in_order refl))
 
 pub returns-in_ok-serve_with_receipts-in-Run-clause-written : goal.returns-in_ok-serve_with_receipts-in-Run-clause-written
 returns-in_ok-serve_with_receipts-in-Run-clause-written g c =
     let ran = c.in_ok-serve_with_receipts-in-Run.ensures in
-    rw c.in-Run.is (run-as-asked g.W.Write.contents c.args.writer.now c.serve_with_receipts.new.writer c.in-Run.options (g.I.Read.remaining c.args.reader) Whole ran.headline (ran.in_order refl))
+    rw c.in-Run.is (run-as-asked g.W.Write.contents c.args.writer.now c.serve_with_receipts.new.writer c.in-Run.options
+    (g.I.Read.remaining c.args.reader) Whole ran.headline (ran.in_order refl))

@@ -12,7 +12,9 @@ returns-clause-answered c =
       record {
         by_history = c.answer-answer.ensures.history;
         memory = memory;
-        same = kept-same old c.answer-answer.new.self c.args.command c.answer-answer.result c.without_counts.result none c.answer-answer.ensures.event c.without_counts.ensures;
-        whole = kept-whole old c.answer-answer.new.self c.args.command c.answer-answer.result c.without_counts.result none c.state_laws.ensures.few c.answer-answer.ensures.event c.without_counts.ensures;
+        same = kept-same old c.answer-answer.new.self c.args.command c.answer-answer.result c.without_counts.result none
+            c.answer-answer.ensures.event c.without_counts.ensures;
+        whole = kept-whole old c.answer-answer.new.self c.args.command c.answer-answer.result c.without_counts.result none
+            c.state_laws.ensures.few c.answer-answer.ensures.event c.without_counts.ensures;
       },
     )

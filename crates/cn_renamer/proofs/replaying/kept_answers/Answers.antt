@@ -33,12 +33,16 @@ loop-command-preserved c =
       answered = (
         done ++ answer ∷ [],
         All-push HadMemory done answer memory given.memory,
-        rw c.push_reserved.ensures.items (AllZip-push (IsKept w) done c.loop-command.answers.items answer c.in_ok-kept.kept same (rw network at given.same)),
+        rw c.push_reserved.ensures.items (AllZip-push (IsKept w) done c.loop-command.answers.items answer c.in_ok-kept.kept same
+            (rw network at given.same)),
         λ others new runs.
             rw append_assoc (rest (answer ∷ others) new
-            (runs-at c.loop-command.epochs c.kept_answer.new.epochs new c.args.commands.now c.loop-command.command-index (Enter 0 0) answer others c.loop-command-test.true given.by_history c.in_ok-kept.ensures.network runs)),
+            (runs-at c.loop-command.epochs c.kept_answer.new.epochs new c.args.commands.now c.loop-command.command-index (Enter 0 0) answer
+            others c.loop-command-test.true given.by_history c.in_ok-kept.ensures.network runs)),
       );
-      whole = rw c.push_reserved.ensures.items (All-push (IsWholeKept w) c.loop-command.answers.items c.in_ok-kept.kept c.loop-command.invariant.whole (rw network at given.whole));
+      whole = rw c.push_reserved.ensures.items
+          (All-push (IsWholeKept w) c.loop-command.answers.items c.in_ok-kept.kept c.loop-command.invariant.whole
+          (rw network at given.whole));
     }
 
 pub returns-clause-answered : goal.returns-clause-answered

@@ -16,6 +16,7 @@ invariant-loop-command l = record {
   number : l.epochs.number ≤ l.fn.epochs.number + l.command-index;
   clears : l.epochs.carries ≡ false;
   answered : (done : List Answer) × All HadMemory done × AllZip (IsKept l.fn.epochs.core.network.table.width) done l.answers.items
-      × ((rest : List Answer) (new : Epochs) → RunsCommandsByHistory l.epochs (drop l.command-index l.commands) rest new → RunsCommandsByHistory l.fn.epochs l.commands (done ++ rest) new);
+      × ((rest : List Answer) (new : Epochs) → RunsCommandsByHistory l.epochs (drop l.command-index l.commands) rest new
+      → RunsCommandsByHistory l.fn.epochs l.commands (done ++ rest) new);
   whole : All (IsWholeKept l.fn.epochs.core.network.table.width) l.answers.items;
 }

@@ -21,7 +21,9 @@ pub write_replay-requires-clause-memory : goal.write_replay-requires-clause-memo
 write_replay-requires-clause-memory g c =
     let (answers, given) = c.in_ok-kept.ensures.answered in
     rw c.deref.ensures.value
-    (All-from_recursion HadMemory c.in_ok-kept.kept.items (all-memory c.args.epochs.now.core.network.table.width answers c.in_ok-kept.kept.items (recursion_from_All HadMemory answers given.memory) given.same))
+    (All-from_recursion HadMemory c.in_ok-kept.kept.items
+    (all-memory c.args.epochs.now.core.network.table.width answers c.in_ok-kept.kept.items
+    (recursion_from_All HadMemory answers given.memory) given.same))
 
 pub write_replay-requires-clause-whole : goal.write_replay-requires-clause-whole
 write_replay-requires-clause-whole g c =
@@ -36,8 +38,10 @@ returns-in_err-write_replay g c =
     let network = ap (λ (e : Epochs). e.core.network) c.requires.begun in
     let writes = (rw c.deref.ensures.value at c.in_err-write_replay.ensures) answers (rw network at given.same) in
     rw (fault.1, fault.2) (
-    written-map g.W.Write.contents _ (IsReplayText c.args.network.now c.args.commands.now) (First c.in_err-write_replay.field-0.0.written) c.args.writer.now c.write_replay.new.writer
-    (replay-is c.args.network.now c.args.epochs.now c.kept_answers.new.epochs c.args.commands.now answers c.in_ok-kept.kept.items c.number.result c.entered.result c.inside.result c.requires.begun c.requires.agrees given
+    written-map g.W.Write.contents _ (IsReplayText c.args.network.now c.args.commands.now) (First c.in_err-write_replay.field-0.0.written)
+    c.args.writer.now c.write_replay.new.writer
+    (replay-is c.args.network.now c.args.epochs.now c.kept_answers.new.epochs c.args.commands.now answers c.in_ok-kept.kept.items
+    c.number.result c.entered.result c.inside.result c.requires.begun c.requires.agrees given
     c.in_ok-kept.ensures.network c.number.ensures.by_turns c.entered.ensures.by_history c.inside.ensures.by_history) writes)
 
 pub returns : goal.returns
@@ -46,7 +50,8 @@ returns g c =
     let network = ap (λ (e : Epochs). e.core.network) c.requires.begun in
     let (text, is, grows) = (rw c.deref.ensures.value at c.in_ok-write_replay.ensures) answers (rw network at given.same) in (
       text,
-      replay-is c.args.network.now c.args.epochs.now c.kept_answers.new.epochs c.args.commands.now answers c.in_ok-kept.kept.items c.number.result c.entered.result c.inside.result c.requires.begun c.requires.agrees given
+      replay-is c.args.network.now c.args.epochs.now c.kept_answers.new.epochs c.args.commands.now answers c.in_ok-kept.kept.items
+          c.number.result c.entered.result c.inside.result c.requires.begun c.requires.agrees given
           c.in_ok-kept.ensures.network c.number.ensures.by_turns c.entered.ensures.by_history c.inside.ensures.by_history text is,
       grows,
     )

@@ -8,7 +8,8 @@ pub returns-in_err-write_wiring : goal.returns-in_err-write_wiring
 returns-in_err-write_wiring g c =
     let fault = err_from_is_err_and c.from_residual-in_err-write_wiring.result c.from_residual-in_err-write_wiring.ensures.1 in
     rw (fault.1, fault.2) (
-    written-map g.W.Write.contents _ (IsWiringOf c.args.net.now) (First c.in_err-write_wiring.field-0.0.written) c.args.writer.now c.write_wiring.new.writer
+    written-map g.W.Write.contents _ (IsWiringOf c.args.net.now) (First c.in_err-write_wiring.field-0.0.written) c.args.writer.now
+    c.write_wiring.new.writer
     (λ text is. (c.in_ok-network.network, c.in_ok-network.ensures.ok, is)) c.in_err-write_wiring.ensures)
 
 pub returns : goal.returns

@@ -20,19 +20,26 @@ pub grow-requires-2 : goal.grow-requires-2
 grow-requires-2 t c =
     let more : 0 < c.args.level = omega arith in
     let root = c.in_ok-first.ensures.built in
-    let one = c.in_ok-even.ensures.built in
-    (omega (arith, c.decreases), (room_for-second more c.requires.loose root one c.requires.room, second-loose more c.requires.loose root one))
+    let one = c.in_ok-even.ensures.built in (
+      omega (arith, c.decreases),
+      (
+        room_for-second more c.requires.loose root one c.requires.room,
+        second-loose more c.requires.loose root one,
+      ),
+    )
 
 pub returns-clause-built : goal.returns-clause-built
 returns-clause-built t c =
     let more : 0 < c.args.level = omega arith in
     let same : length c.in_ok-even.even.items ≡ length c.in_ok-odd.odd.items = c.in_ok-even.ensures.row ∙ sym c.in_ok-odd.ensures.row in
     let built = tree-built more c.requires.loose c.in_ok-first.ensures.built c.in_ok-even.ensures.built c.in_ok-odd.ensures.built same in
-    IfOk-weaker c.interleave.result _ _ (λ exits e. rw e built) (rw (c.deref.ensures.value, c.deref-2.ensures.value) at c.interleave.ensures)
+    IfOk-weaker c.interleave.result _ _ (λ exits e. rw e built)
+    (rw (c.deref.ensures.value, c.deref-2.ensures.value) at c.interleave.ensures)
 
 pub returns-clause-row : goal.returns-clause-row
 returns-clause-row t c =
-    let row = tree-row c.args.level c.in_ok-even.even.items c.in_ok-odd.odd.items (omega arith) c.in_ok-even.ensures.row c.in_ok-odd.ensures.row in
+    let row = tree-row c.args.level c.in_ok-even.even.items c.in_ok-odd.odd.items (omega arith) c.in_ok-even.ensures.row
+    c.in_ok-odd.ensures.row in
     IfOk-weaker c.interleave.result _ _ (λ exits e. rw e row) (rw (c.deref.ensures.value, c.deref-2.ensures.value) at c.interleave.ensures)
 
 pub returns-clause-flow : goal.returns-clause-flow
@@ -48,5 +55,6 @@ returns-then-level-eq0-clause-order t c = rw (c.in_ok-vec.ensures.items, c.if-le
 
 pub returns-clause-order : goal.returns-clause-order
 returns-clause-order t c =
-    let made = made_more c.args.draft.now c.args.wire c.args.level (omega arith) c.in_ok-first.ensures.plan c.in_ok-first.ensures.wires c.in_ok-even.ensures.order c.in_ok-odd.ensures.order in
+    let made = made_more c.args.draft.now c.args.wire c.args.level (omega arith) c.in_ok-first.ensures.plan c.in_ok-first.ensures.wires
+    c.in_ok-even.ensures.order c.in_ok-odd.ensures.order in
     IfOk-weaker c.interleave.result _ _ (λ exits e. rw e made) (rw (c.deref.ensures.value, c.deref-2.ensures.value) at c.interleave.ensures)

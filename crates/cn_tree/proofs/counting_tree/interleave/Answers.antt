@@ -2,7 +2,8 @@ use Rattle.std.proofs.Common.{◌≡◌, ℕ, List, ◌++◌, ◌∷◌, [], app
 use Rattle.cn_tree.proofs.counting_tree.interleave.Goals as goal
 
 -- a row with two more wires, and then the rest
-two-more : (row two rest all : List ℕ) (a b : ℕ) → row ++ a ∷ b ∷ rest ≡ all → (one : List ℕ) × (two ≡ one ++ b ∷ []) × (one ≡ row ++ a ∷ []) → two ++ rest ≡ all
+two-more : (row two rest all : List ℕ) (a b : ℕ) → row ++ a ∷ b ∷ rest ≡ all
+    → (one : List ℕ) × (two ≡ one ++ b ∷ []) × (one ≡ row ++ a ∷ []) → two ++ rest ≡ all
 two-more row two rest all a b whole (one, second, first) = rw (second, first) (simp append_assoc whole)
 
 pub loop-a-preserved : goal.loop-a-preserved

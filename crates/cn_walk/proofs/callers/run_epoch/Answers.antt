@@ -9,5 +9,6 @@ pub returns-clause-run : goal.returns-clause-run
 returns-clause-run g c =
     let clients = c.args.clients.now in
     IfOk-weaker c.walk_to_quiet.result _ _
-    (λ q is. from-zero c.args.network.now clients q (subst (λ (w : WordsValue). IsRunAfter w clients q) (ap words_before c.in-Ok.ensures.start) is))
+    (λ q is. from-zero c.args.network.now clients q
+    (subst (λ (w : WordsValue). IsRunAfter w clients q) (ap words_before c.in-Ok.ensures.start) is))
     c.walk_to_quiet.ensures.run

@@ -19,9 +19,11 @@ returns-in-Ok-clause-walked g t c =
     let n : ℕ = length c.args.clients.now in
     let at : ℕ = c.in-Halves.at in
     let ready = subst (λ (x : Lanes). AreReady home n x) c.in-Halves.is c.requires.ready in
-    let other = subst (λ (x : Lanes). IsReady home (n - at) (whole x)) (sym right) (whole-ready home (n - at) c.in-Halves.right.value ready.3) in
+    let other = subst (λ (x : Lanes). IsReady home (n - at) (whole x)) (sym right)
+    (whole-ready home (n - at) c.in-Halves.right.value ready.3) in
     let cut = c.split_at.ensures.by_index.0 in
-    let done = both-walked a b c.join-lane.result.0 c.join-lane.result.1 _ _ other.nothing c.join-lane.ensures.first c.join-lane.ensures.second in
+    let done = both-walked a b c.join-lane.result.0 c.join-lane.result.1 _ _ other.nothing c.join-lane.ensures.first
+    c.join-lane.ensures.second in
     let joined : c.in-Ok.lane ≡ together c.join-lane.result.0 c.join-lane.result.1 =
     subst (λ r. IfOk r (λ (l : LaneValue). l ≡ together c.join-lane.result.0 c.join-lane.result.1)) c.in-Ok.is c.join.ensures.ok in
     subst (λ (l : LaneValue). WalksAll l c.in-Ok.lane c.args.clients.now) (sym lanes)

@@ -10,7 +10,12 @@ use Rattle.cn_walk.proofs.forking.+make_lanes.Goals.{then-own-eq0-via-then-own-e
 pub overflow_sub-own-2 : goal.overflow_sub-own-2
 overflow_sub-own-2 t c =
     let middle : ℕ = c.args.from + (c.args.to - c.args.from) / 2 in
-    omega (arith, c.first_position-2.ensures.value, c.first_position.ensures.value, first-later c.args.clients c.args.workers middle c.args.to (omega (arith, c.requires.range)) (omega (arith, c.requires.range)))
+    omega (
+      arith,
+      c.first_position-2.ensures.value,
+      c.first_position.ensures.value,
+      first-later c.args.clients c.args.workers middle c.args.to (omega (arith, c.requires.range)) (omega (arith, c.requires.range)),
+    )
 
 pub make_lanes-requires-2 : goal.make_lanes-requires-2
 make_lanes-requires-2 t c =
@@ -25,7 +30,8 @@ make_lanes-requires-2 t c =
         (
           (omega (arith, c.if-to-from-eq1.false, range), omega (arith, range), range.2),
           (
-            left-nothing q c.reserve.new.self c.in-Ok-split.lane (reserved-nothing _ _ _ c.requires.nothing reserved) c.in-Ok-split.ensures.first,
+            left-nothing q c.reserve.new.self c.in-Ok-split.lane (reserved-nothing _ _ _ c.requires.nothing reserved)
+                c.in-Ok-split.ensures.first,
             omega (
               arith,
               c.from-2.ensures,
@@ -88,10 +94,13 @@ returns-clause-ready t c =
     let part : first_position k w middle - first_position k w c.args.from ≡ at = omega (arith, mid, begin) in
     let rest : r ≡ n - at = omega (arith, low, high, mid, begin) in
     let reserved : c.first_position.result - c.first_position-first.result ≤ c.reserve.new.self.room = search rules in
-    let room : n ≤ c.in-Ok-split.lane.room = omega (arith, reserved, end, begin, ap (λ (l : LaneValue). l.room) c.in-Ok-split.ensures.first) in
+    let room : n ≤ c.in-Ok-split.lane.room =
+    omega (arith, reserved, end, begin, ap (λ (l : LaneValue). l.room) c.in-Ok-split.ensures.first) in
     let left : AreReady home at c.in_ok-left.left = subst (λ (x : ℕ). AreReady home x c.in_ok-left.left) part c.in_ok-left.ensures.ready in
-    some_so (λ (lanes : Lanes). IsPair at c.in_ok-left.left c.in_ok-right.right lanes) (λ (lanes : Lanes). AreReady home n lanes) c.pair.result
-    (λ lanes is. pair-ready home n at r c.in_ok-left.left c.in_ok-right.right lanes is few (omega (arith, room, c.in_ok-left.ensures.room)) left c.in_ok-right.ensures.ready rest)
+    some_so (λ (lanes : Lanes). IsPair at c.in_ok-left.left c.in_ok-right.right lanes) (λ (lanes : Lanes). AreReady home n lanes)
+    c.pair.result
+    (λ lanes is. pair-ready home n at r c.in_ok-left.left c.in_ok-right.right lanes is few (omega (arith, room, c.in_ok-left.ensures.room))
+    left c.in_ok-right.ensures.ready rest)
     c.pair.ensures
 
 pub returns-clause-workers : goal.returns-clause-workers
@@ -101,7 +110,8 @@ returns-clause-workers t c =
     let k : ℕ = c.args.clients in
     let w : ℕ = c.args.workers in
     let at : ℕ = c.first_position-2.result - c.first_position-first.result in
-    let part : at ≡ first_position k w middle - first_position k w c.args.from = omega (arith, c.first_position-2.ensures.value, c.first_position-first.ensures.value) in
+    let part : at ≡ first_position k w middle - first_position k w c.args.from =
+    omega (arith, c.first_position-2.ensures.value, c.first_position-first.ensures.value) in
     let some : 0 < at = omega (arith, c.if-at-eq0.false) in
     let less : at < first_position k w c.args.to - first_position k w c.args.from =
     omega (
@@ -112,19 +122,27 @@ returns-clause-workers t c =
       c.first_position-first.ensures.value,
       c.first_position-2.ensures.value,
     ) in
-    some_so (λ (lanes : Lanes). IsPair at c.in_ok-left.left c.in_ok-right.right lanes) (λ (lanes : Lanes). AreOf k w c.args.from c.args.to lanes) c.pair.result
-    (λ lanes is. is.of k w c.args.from middle c.args.to (omega (arith, c.if-to-from-eq1.false, range)) (omega (arith, c.if-to-from-eq1.false, range)) part some less c.in_ok-left.ensures.workers c.in_ok-right.ensures.workers)
+    some_so (λ (lanes : Lanes). IsPair at c.in_ok-left.left c.in_ok-right.right lanes)
+    (λ (lanes : Lanes). AreOf k w c.args.from c.args.to lanes) c.pair.result
+    (λ lanes is. is.of k w c.args.from middle c.args.to (omega (arith, c.if-to-from-eq1.false, range))
+    (omega (arith, c.if-to-from-eq1.false, range)) part some less c.in_ok-left.ensures.workers c.in_ok-right.ensures.workers)
     c.pair.ensures
 
 pub overflow_sub-at : goal.overflow_sub-at
 overflow_sub-at t c =
     let middle : ℕ = c.args.from + (c.args.to - c.args.from) / 2 in
-    omega (arith, c.first_position-2.ensures.value, c.first_position-first.ensures.value, first-later c.args.clients c.args.workers c.args.from middle (omega (arith, c.requires.range)) (omega (arith, c.requires.range)))
+    omega (
+      arith,
+      c.first_position-2.ensures.value,
+      c.first_position-first.ensures.value,
+      first-later c.args.clients c.args.workers c.args.from middle (omega (arith, c.requires.range)) (omega (arith, c.requires.range)),
+    )
 
 -- ---- workers without clients
 
 -- the first of workers who have no clients, or a single one
-single : (k w from to : ℕ) → 0 < w → from < to → first_position k w to ≤ first_position k w from → first_position k w (from + 1) ≡ first_position k w to
+single : (k w from to : ℕ) → 0 < w → from < to → first_position k w to ≤ first_position k w from
+    → first_position k w (from + 1) ≡ first_position k w to
 single k w from to some less none =
     omega (arith, none, first-later k w from (from + 1) some (omega arith), first-later k w (from + 1) to some (omega (arith, less)))
 
@@ -136,7 +154,8 @@ returns-then-own-eq0-clause-workers t c =
     let last : first_position k w (c.args.from + 1) ≡ first_position k w c.args.to =
     elim c.then-own-eq0.branch [
       | then-own-eq0-via-then-own-eq0 x ↦
-          single k w c.args.from c.args.to (omega (arith, range)) range.0 (omega (arith, x.if-own-eq0.true, c.first_position.ensures.value, c.first_position-first.ensures.value))
+          single k w c.args.from c.args.to (omega (arith, range)) range.0
+          (omega (arith, x.if-own-eq0.true, c.first_position.ensures.value, c.first_position-first.ensures.value))
       | then-own-eq0-via-else-own-eq0+then-to-from-eq1 x ↦
           ap (λ (n : ℕ). first_position k w n) (let one : c.args.from + 1 ≡ c.args.to = omega (arith, x.if-to-from-eq1.true, range) in one)
     ] in
@@ -167,7 +186,8 @@ returns-then-at-eq0-clause-ready t c =
     let w : ℕ = c.args.workers in
     let middle : ℕ = c.args.from + (c.args.to - c.args.from) / 2 in
     let low = first-later k w c.args.from middle (omega (arith, c.requires.range)) (omega (arith, c.requires.range)) in
-    let same : first_position k w c.args.to - first_position k w middle ≡ first_position k w c.args.to - first_position k w c.args.from = omega (arith, c.if-at-eq0.true, low, c.first_position-first.ensures.value, c.first_position-2.ensures.value) in
+    let same : first_position k w c.args.to - first_position k w middle ≡ first_position k w c.args.to - first_position k w c.args.from =
+    omega (arith, c.if-at-eq0.true, low, c.first_position-first.ensures.value, c.first_position-2.ensures.value) in
     subst (λ (n : ℕ). IfSome c.make_lanes.result (λ lanes. AreReady c.args.floor.now n lanes)) same c.make_lanes.ensures.ready
 
 pub returns-then-at-eq0-clause-workers : goal.returns-then-at-eq0-clause-workers
@@ -176,8 +196,10 @@ returns-then-at-eq0-clause-workers t c =
     let w : ℕ = c.args.workers in
     let middle : ℕ = c.args.from + (c.args.to - c.args.from) / 2 in
     let low = first-later k w c.args.from middle (omega (arith, c.requires.range)) (omega (arith, c.requires.range)) in
-    let same : first_position k w middle ≡ first_position k w c.args.from = omega (arith, c.if-at-eq0.true, low, c.first_position-first.ensures.value, c.first_position-2.ensures.value) in
-    some_so (λ (lanes : Lanes). AreOf k w middle c.args.to lanes) (λ (lanes : Lanes). AreOf k w c.args.from c.args.to lanes) c.make_lanes.result
+    let same : first_position k w middle ≡ first_position k w c.args.from =
+    omega (arith, c.if-at-eq0.true, low, c.first_position-first.ensures.value, c.first_position-2.ensures.value) in
+    some_so (λ (lanes : Lanes). AreOf k w middle c.args.to lanes) (λ (lanes : Lanes). AreOf k w c.args.from c.args.to lanes)
+    c.make_lanes.result
     (λ lanes are. none_before k w c.args.from middle c.args.to lanes (omega arith) same are)
     c.make_lanes.ensures.workers
 
@@ -188,7 +210,17 @@ returns-then-at-own-clause-workers t c =
     let middle : ℕ = c.args.from + (c.args.to - c.args.from) / 2 in
     let low = first-later k w c.args.from middle (omega (arith, c.requires.range)) (omega (arith, c.requires.range)) in
     let high = first-later k w middle c.args.to (omega (arith, c.requires.range)) (omega (arith, c.requires.range)) in
-    let same : first_position k w middle ≡ first_position k w c.args.to = omega (arith, c.if-at-own.true, low, high, c.first_position.ensures.value, c.first_position-first.ensures.value, c.first_position-2.ensures.value) in
-    some_so (λ (lanes : Lanes). AreOf k w c.args.from middle lanes) (λ (lanes : Lanes). AreOf k w c.args.from c.args.to lanes) c.make_lanes-then-at-own.result
+    let same : first_position k w middle ≡ first_position k w c.args.to =
+    omega (
+      arith,
+      c.if-at-own.true,
+      low,
+      high,
+      c.first_position.ensures.value,
+      c.first_position-first.ensures.value,
+      c.first_position-2.ensures.value,
+    ) in
+    some_so (λ (lanes : Lanes). AreOf k w c.args.from middle lanes) (λ (lanes : Lanes). AreOf k w c.args.from c.args.to lanes)
+    c.make_lanes-then-at-own.result
     (λ lanes are. none_after k w c.args.from middle c.args.to lanes (omega (arith, c.requires.range)) same are)
     c.make_lanes-then-at-own.ensures.workers

@@ -8,7 +8,8 @@ pub loop-position-preserved : goal.loop-position-preserved
 loop-position-preserved c =
     let d : Client = record { id = 0; entry = 0 } in
     let one : (get_or c.args.clients.now c.loop-position.position d).entry < c.from-entries.result = search (rules, get_or_default) in
-    All-more (λ (k : Client). k.entry < c.from-entries.result) c.args.clients.now c.loop-position.position d c.loop-position-test.true c.loop-position.invariant one
+    All-more (λ (k : Client). k.entry < c.from-entries.result) c.args.clients.now c.loop-position.position d c.loop-position-test.true
+    c.loop-position.invariant one
 
 pub returns-clause-allowed : goal.returns-clause-allowed
 returns-clause-allowed c =
@@ -18,7 +19,8 @@ returns-clause-allowed c =
       workers_fit = search rules;
       hand_fits = search rules;
       few = search rules;
-      by_entries = subst (λ (n : ℕ). All (λ (k : Client). k.entry < n) c.args.clients.now) entries (subst (λ (ks : List Client). All (λ (k : Client). k.entry < c.from-entries.result) ks) whole c.loop-position.invariant);
+      by_entries = subst (λ (n : ℕ). All (λ (k : Client). k.entry < n) c.args.clients.now) entries
+          (subst (λ (ks : List Client). All (λ (k : Client). k.entry < c.from-entries.result) ks) whole c.loop-position.invariant);
     }
 
 pub returns-then-hand-eq0-clause-refused : goal.returns-then-hand-eq0-clause-refused

@@ -14,7 +14,8 @@ invariant-loop-rest g l = record {
   quota : length l.rest ≤ l.lane.view.quota;
   room : length l.rest ≤ l.lane.room;
   walks : (last : LaneValue) → Walks l.lane last l.rest → Walks l.initial.lane last l.clients;
-  ordered : l.hand ≡ 1 → IsSole l.initial.lane → IsSole l.lane × ((last : LaneValue) → GrantsInOrder l.lane last l.rest → GrantsInOrder l.initial.lane last l.clients);
+  ordered : l.hand ≡ 1 → IsSole l.initial.lane
+      → IsSole l.lane × ((last : LaneValue) → GrantsInOrder l.lane last l.rest → GrantsInOrder l.initial.lane last l.clients);
 }
 
 abbrev pub decreases-loop-rest : goal.decreases-loop-rest

@@ -13,13 +13,17 @@ pub loop-client-preserved : goal.loop-client-preserved
 loop-client-preserved g c =
     let laws = c.lane_laws.ensures in
     let was = c.loop-client.invariant in
-    let held : IsHeld c.loop-client.lane = record { start = laws.start; tokens = laws.tokens; wires = laws.wires; once = laws.once; there = laws.there } in
+    let held : IsHeld c.loop-client.lane = record
+    { start = laws.start; tokens = laws.tokens; wires = laws.wires; once = laws.once; there = laws.there } in
     let home = ap (λ (h : FloorValue). h.start.network.table.entries) (was.walks.home ∙ c.requires.own) in
     let formed : IsWellFormed c.loop-client.lane.home.start.network.table =
-    subst (λ (h : FloorValue). IsWellFormed h.start.network.table) (sym (was.walks.home ∙ c.requires.own)) c.start_laws.ensures.network.formed in
+    subst (λ (h : FloorValue). IsWellFormed h.start.network.table) (sym (was.walks.home ∙ c.requires.own))
+    c.start_laws.ensures.network.formed in
     let some : 0 < c.loop-client.lane.view.quota = search rules in
     let came = c.in-Ok.ensures.ok in
     record {
-      walks = comes-next _ _ _ _ (record { id = 0; entry = 0 }) _ c.loop-client-test.true was.walks (comes _ _ _ _ _ formed held some (search rules) came);
-      in_state = λ _. subst (λ (h : FloorValue). StoodInState h.start c.enter.new.lane.view) (was.walks.home ∙ c.requires.own) (state-after _ _ _ _ came.step);
+      walks = comes-next _ _ _ _ (record { id = 0; entry = 0 }) _ c.loop-client-test.true was.walks
+          (comes _ _ _ _ _ formed held some (search rules) came);
+      in_state = λ _. subst (λ (h : FloorValue). StoodInState h.start c.enter.new.lane.view) (was.walks.home ∙ c.requires.own)
+          (state-after _ _ _ _ came.step);
     }

@@ -13,7 +13,8 @@ pub loop-lowest-smaller : goal.loop-lowest-smaller
 loop-lowest-smaller g c =
     let (n, is) = c.sweep.ensures in
     let laws = c.lane_laws-in-Some.ensures in
-    let held : IsHeld c.bring_on-wire.new.lane = record { start = laws.start; tokens = laws.tokens; wires = laws.wires; once = laws.once; there = laws.there } in
+    let held : IsHeld c.bring_on-wire.new.lane =
+    record { start = laws.start; tokens = laws.tokens; wires = laws.wires; once = laws.once; there = laws.there } in
     let home = c.bring_on-wire.ensures.walked.home ∙ c.loop-lowest.invariant.walks.home ∙ c.requires.own in
     let formed : IsWellFormed c.bring_on-wire.new.lane.home.start.network.table =
     subst (λ (h : FloorValue). IsWellFormed h.start.network.table) (sym home) c.network.ensures.network.formed in
@@ -27,7 +28,8 @@ loop-lowest-preserved g c =
     let later = c.lane_laws-in-Some-2.ensures in
     let wire : ℕ = c.bring_on-wire.result in
     let brought = c.bring_on-wire.ensures in
-    let held : IsHeld c.bring_on-wire.new.lane = record { start = laws.start; tokens = laws.tokens; wires = laws.wires; once = laws.once; there = laws.there } in
+    let held : IsHeld c.bring_on-wire.new.lane =
+    record { start = laws.start; tokens = laws.tokens; wires = laws.wires; once = laws.once; there = laws.there } in
     let some : 0 < length (on c.bring_on-wire.new.lane.yard.lists wire) = omega (arith, brought.lowest.some) in
     let inside = lowest-inside c.bring_on-wire.new.lane.yard.lists wire brought.lowest in
     let home = brought.walked.home ∙ c.loop-lowest.invariant.walks.home ∙ c.requires.own in

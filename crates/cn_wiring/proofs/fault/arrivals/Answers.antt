@@ -5,7 +5,8 @@ use Rattle.cn_wiring.proofs.fault.arrivals.Goals as goal
 use Rattle.cn_wiring.proofs.fault.arrivals.Goals.{in-Balancer, in-Exit}
 
 pub loop-end-init : goal.loop-end-init
-loop-end-init c = rw (c.in_ok-at_balancers.ensures.items_if_clones_equal, c.in_ok-at_exits.ensures.items_if_clones_equal) (Counted-none _ _ _)
+loop-end-init c = rw (c.in_ok-at_balancers.ensures.items_if_clones_equal, c.in_ok-at_exits.ensures.items_if_clones_equal)
+    (Counted-none _ _ _)
 
 pub index_mut-requires : goal.index_mut-requires
 index_mut-requires c =
@@ -45,11 +46,13 @@ loop-end-preserved c =
           let n = c.loop-end.invariant.lens in
           let inside : w.in-Balancer.b < length c.loop-end.at_balancers.items = omega (arith, s) in
           let v = get_or_read c.loop-end.at_balancers.items w.in-Balancer.b w.index_mut.result.now inside w.index_mut.ensures.value 0 in
-          rw (w.at_balancers-is, w.at_exits-is, v) (Counted-balancer w.in-Balancer.b c.loop-end-test.true w.in-Balancer.is s c.loop-end.invariant)
+          rw (w.at_balancers-is, w.at_exits-is, v)
+          (Counted-balancer w.in-Balancer.b c.loop-end-test.true w.in-Balancer.is s c.loop-end.invariant)
       | in-Exit w ↦
           let s = rw w.in-Exit.is at (c.requires.stand c.loop-end.end-index c.loop-end-test.true) in
           let n = c.loop-end.invariant.lens in
           let inside : w.in-Exit.i < length c.loop-end.at_exits.items = omega (arith, s) in
-          let v = get_or_read c.loop-end.at_exits.items w.in-Exit.i w.index_mut-in-Exit.result.now inside w.index_mut-in-Exit.ensures.value 0 in
+          let v = get_or_read c.loop-end.at_exits.items w.in-Exit.i w.index_mut-in-Exit.result.now inside w.index_mut-in-Exit.ensures.value
+          0 in
           rw (w.at_balancers-is, w.at_exits-is, v) (Counted-exit w.in-Exit.i c.loop-end-test.true w.in-Exit.is s c.loop-end.invariant)
     ]

@@ -4,7 +4,8 @@ use Rattle.cn_yard.proofs.lines.append.Goals.{then-line-gt0, else-line-gt0}
 use Rattle.cn_yard.proofs.lines.append.Goals as goal
 
 appends : (c : goal.After-longer)
-    → Appends c.args.records.now c.args.lines.now c.if-line-gt0.records c.set_wire.new.records (set c.args.lines.now c.args.wire c.longer.result) c.args.number c.args.wire
+    → Appends c.args.records.now c.args.lines.now c.if-line-gt0.records c.set_wire.new.records
+    (set c.args.lines.now c.args.wire c.longer.result) c.args.number c.args.wire
 appends c = record {
   first = λ e. elim c.if-line-gt0.branch [
     | then-line-gt0 w ↦ absurd (let t = w.if-line-gt0.true in omega (arith, e, t))
@@ -25,8 +26,11 @@ link-requires-clause-from c =
     last-below c.args.records.now c.args.lines.now order l c.args.wire c.requires.wire (omega (arith, some))
 
 pub returns-clause-kept : goal.returns-clause-kept
-returns-clause-kept c = on-kept c.args.records.now c.args.lines.now c.if-line-gt0.records c.set_wire.new.records (set c.args.lines.now c.args.wire c.longer.result) c.args.number c.args.wire c.requires.wire (appends c)
+returns-clause-kept c = on-kept c.args.records.now c.args.lines.now c.if-line-gt0.records c.set_wire.new.records
+    (set c.args.lines.now c.args.wire c.longer.result) c.args.number c.args.wire c.requires.wire (appends c)
 
 pub returns-clause-linked : goal.returns-clause-linked
 returns-clause-linked c order l off =
-    on-linked c.args.records.now c.args.lines.now c.if-line-gt0.records c.set_wire.new.records (set c.args.lines.now c.args.wire c.longer.result) order c.args.number c.args.wire l off c.requires.number c.requires.wire (appends c) (returns-clause-kept c)
+    on-linked c.args.records.now c.args.lines.now c.if-line-gt0.records c.set_wire.new.records
+    (set c.args.lines.now c.args.wire c.longer.result) order c.args.number c.args.wire l off c.requires.number c.requires.wire
+    (appends c) (returns-clause-kept c)

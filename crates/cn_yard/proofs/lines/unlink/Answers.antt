@@ -5,7 +5,8 @@ use Rattle.cn_yard.proofs.lines.unlink.Goals.{then-not-is_end, else-not-is_end}
 use Rattle.cn_yard.proofs.lines.unlink.Goals as goal
 
 unlinks : (c : goal.After-shorter)
-    → Unlinks c.args.records.now c.args.lines.now c.if-not-is_end.records (set c.args.lines.now (wire_of c.args.records.now c.args.number) c.shorter.result) c.args.number
+    → Unlinks c.args.records.now c.args.lines.now c.if-not-is_end.records
+    (set c.args.lines.now (wire_of c.args.records.now c.args.number) c.shorter.result) c.args.number
 unlinks c = record {
   at_end = λ e. elim c.if-not-is_end.branch [
     | then-not-is_end w ↦ absurd (let t = w.if-not-is_end.true in let k = c.is_end.ensures in cc)
@@ -19,8 +20,10 @@ unlinks c = record {
 }
 
 near : (c : goal.After-link-arg-1)
-    → (prev_of c.args.records.now c.args.number < length c.args.records.now) × (next_of c.args.records.now c.args.number < length c.args.records.now)
-near c = let (order, l, one) = c.requires.linked in near-below c.args.records.now c.args.lines.now order l c.args.number c.requires.wire one (sym c.is_end.ensures ∙ c.if-not-is_end.true)
+    → (prev_of c.args.records.now c.args.number < length c.args.records.now)
+    × (next_of c.args.records.now c.args.number < length c.args.records.now)
+near c = let (order, l, one) = c.requires.linked in
+    near-below c.args.records.now c.args.lines.now order l c.args.number c.requires.wire one (sym c.is_end.ensures ∙ c.if-not-is_end.true)
 
 pub link-requires-clause-from : goal.link-requires-clause-from
 link-requires-clause-from c = (near c).0
@@ -31,14 +34,19 @@ link-requires-clause-to c = (near c).1
 pub shorter-requires : goal.shorter-requires
 shorter-requires c =
     let (order, l, one) = c.requires.linked in
-    some-there c.args.records.now c.args.lines.now order l c.args.number (wire_of c.args.records.now c.args.number) c.requires.wire (omega (arith, one))
+    some-there c.args.records.now c.args.lines.now order l c.args.number (wire_of c.args.records.now c.args.number) c.requires.wire
+    (omega (arith, one))
 
 pub returns-clause-kept : goal.returns-clause-kept
 returns-clause-kept c =
     let (order, l, one) = c.requires.linked in
-    off-kept c.args.records.now c.args.lines.now c.if-not-is_end.records (set c.args.lines.now (wire_of c.args.records.now c.args.number) c.shorter.result) c.args.number c.requires.wire
-    (some-there c.args.records.now c.args.lines.now order l c.args.number (wire_of c.args.records.now c.args.number) c.requires.wire (omega (arith, one))) (unlinks c)
+    off-kept c.args.records.now c.args.lines.now c.if-not-is_end.records
+    (set c.args.lines.now (wire_of c.args.records.now c.args.number) c.shorter.result) c.args.number c.requires.wire
+    (some-there c.args.records.now c.args.lines.now order l c.args.number (wire_of c.args.records.now c.args.number) c.requires.wire
+    (omega (arith, one))) (unlinks c)
 
 pub returns-clause-linked : goal.returns-clause-linked
 returns-clause-linked c order l one =
-    off-linked c.args.records.now c.args.lines.now c.if-not-is_end.records (set c.args.lines.now (wire_of c.args.records.now c.args.number) c.shorter.result) order c.args.number l c.requires.wire one (unlinks c) (returns-clause-kept c)
+    off-linked c.args.records.now c.args.lines.now c.if-not-is_end.records
+    (set c.args.lines.now (wire_of c.args.records.now c.args.number) c.shorter.result) order c.args.number l c.requires.wire one
+    (unlinks c) (returns-clause-kept c)

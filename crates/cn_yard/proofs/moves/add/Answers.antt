@@ -14,7 +14,8 @@ append-requires-clause-count c =
 pub append-requires-clause-linked : goal.append-requires-clause-linked
 append-requires-clause-linked c =
     let (order, lined) = c.requires.lined in
-    let t = new-one c.args.records.now.items c.args.lines.now order (record { prev = 0; next = 0; wire = c.args.wire; client = 0 }) lined.links in
+    let t = new-one c.args.records.now.items c.args.lines.now order (record { prev = 0; next = 0; wire = c.args.wire; client = 0 })
+    lined.links in
     let number : c.len-number.result ≡ length c.args.records.now.items = c.len-number.ensures ∙ search rules in
     rw (c.deref_mut.ensures.value, c.push_reserved.ensures.items, number) (order, t.linked, t.off)
 
@@ -28,7 +29,8 @@ mark-requires c =
 pub returns-clause-kept : goal.returns-clause-kept
 returns-clause-kept c =
     rw (take_at c.append.new.records _ c.push_reserved.new.self.len (c.append.ensures.kept.len ∙ c.deref_mut.ensures.len))
-    (added-kept c.args.records.now.items c.args.lines.now c.deref_mut.result.now c.append.new.records c.append.new.lines (record { prev = 0; next = 0; wire = c.args.wire; client = 0 }) c.len-number.result c.args.wire
+    (added-kept c.args.records.now.items c.args.lines.now c.deref_mut.result.now c.append.new.records c.append.new.lines
+    (record { prev = 0; next = 0; wire = c.args.wire; client = 0 }) c.len-number.result c.args.wire
     (c.deref_mut.ensures.value ∙ c.push_reserved.ensures.items) c.append.ensures.kept)
 
 pub returns-clause-lined : goal.returns-clause-lined
@@ -40,12 +42,16 @@ returns-clause-lined c order lined =
     record {
       links =
           rw (take_at c.append.new.records _ c.push_reserved.new.self.len (c.append.ensures.kept.len ∙ c.deref_mut.ensures.len))
-          (added c.args.records.now.items c.args.lines.now c.deref_mut.result.now c.append.new.records c.append.new.lines order (record { prev = 0; next = 0; wire = c.args.wire; client = 0 }) c.len-number.result c.args.wire
-          lined.links (c.deref_mut.ensures.value ∙ c.push_reserved.ensures.items) number c.requires.wire c.append.ensures.kept (c.append.ensures.linked order));
+          (added c.args.records.now.items c.args.lines.now c.deref_mut.result.now c.append.new.records c.append.new.lines order
+          (record { prev = 0; next = 0; wire = c.args.wire; client = 0 }) c.len-number.result c.args.wire
+          lined.links (c.deref_mut.ensures.value ∙ c.push_reserved.ensures.items) number c.requires.wire c.append.ensures.kept
+          (c.append.ensures.linked order));
       few = omega arith;
       marks =
           marks-one c.args.lines.now c.append.new.lines c.args.marks.now c.mark.new.words c.args.wire true
-          lined.marks c.mark.ensures.marks c.append.ensures.kept.as_many (λ u o. let k = c.append.ensures.kept.count u in grind (arith, nat_tests)) (let k = c.append.ensures.kept.count c.args.wire in grind (arith, nat_tests));
+          lined.marks c.mark.ensures.marks c.append.ensures.kept.as_many
+          (λ u o. let k = c.append.ensures.kept.count u in grind (arith, nat_tests))
+          (let k = c.append.ensures.kept.count c.args.wire in grind (arith, nat_tests));
       room = omega arith;
       short = omega arith;
     }

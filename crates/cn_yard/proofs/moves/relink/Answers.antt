@@ -10,7 +10,8 @@ off : (c : After-unlink) (order : ℕ → List ℕ) → IsLined c.args.records.n
     → ButOne c.unlink.new.records c.unlink.new.lines (λ u. but c.args.number (order u)) c.args.number
 off c order lined =
     let is = lined.links in
-    but-one c.args.records.now c.args.lines.now c.unlink.new.records c.unlink.new.lines order c.args.number is c.requires.number c.unlink.ensures.kept
+    but-one c.args.records.now c.args.lines.now c.unlink.new.records c.unlink.new.lines order c.args.number is c.requires.number
+    c.unlink.ensures.kept
     (c.unlink.ensures.linked order is.linked (is.there c.args.number c.requires.number))
 
 pub unlink-requires-clause-wire : goal.unlink-requires-clause-wire
@@ -56,19 +57,24 @@ returns-clause-lined c order lined =
     let from = wire_of c.args.records.now c.args.number in
     let left : HasMarks c.unlink.new.lines c.mark.new.words =
     marks-one c.args.lines.now c.unlink.new.lines c.args.marks.now c.mark.new.words from (ltb 0 (count_of c.unlink.new.lines from))
-    lined.marks c.mark.ensures.marks c.unlink.ensures.kept.as_many (λ u o. let k = c.unlink.ensures.kept.count u in grind (arith, nat_tests)) refl in
+    lined.marks c.mark.ensures.marks c.unlink.ensures.kept.as_many
+    (λ u o. let k = c.unlink.ensures.kept.count u in grind (arith, nat_tests)) refl in
     let few = lined.few in let room = lined.room in let short = lined.short in
     let len = c.append.ensures.kept.len in let len' = c.unlink.ensures.kept.len in
     let as_many = c.append.ensures.kept.as_many in let as_many' = c.unlink.ensures.kept.as_many in
     let words = c.mark-2.ensures.length in let words' = c.mark.ensures.length in
     record {
       links =
-          but-none c.unlink.new.records c.unlink.new.lines c.append.new.records c.append.new.lines (λ u. but c.args.number (order u)) c.args.number c.args.wire but-it
-          (rw c.unlink.ensures.kept.as_many c.requires.wire) c.append.ensures.kept (c.append.ensures.linked (λ u. but c.args.number (order u)) but-it.linked but-it.off);
+          but-none c.unlink.new.records c.unlink.new.lines c.append.new.records c.append.new.lines (λ u. but c.args.number (order u))
+          c.args.number c.args.wire but-it
+          (rw c.unlink.ensures.kept.as_many c.requires.wire) c.append.ensures.kept
+          (c.append.ensures.linked (λ u. but c.args.number (order u)) but-it.linked but-it.off);
       few = omega arith;
       marks =
           marks-one c.unlink.new.lines c.append.new.lines c.mark.new.words c.mark-2.new.words c.args.wire true
-          left c.mark-2.ensures.marks c.append.ensures.kept.as_many (λ u o. let k = c.append.ensures.kept.count u in grind (arith, nat_tests)) (let k = c.append.ensures.kept.count c.args.wire in grind (arith, nat_tests));
+          left c.mark-2.ensures.marks c.append.ensures.kept.as_many
+          (λ u o. let k = c.append.ensures.kept.count u in grind (arith, nat_tests))
+          (let k = c.append.ensures.kept.count c.args.wire in grind (arith, nat_tests));
       room = omega arith;
       short = omega arith;
     }

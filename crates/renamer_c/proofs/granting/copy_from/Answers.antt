@@ -18,8 +18,10 @@ loop-i-preserved c =
       length-set to i one ∙ c.loop-i.invariant.0,
       λ k d e l. elim (cases_eq k i) [
         | inl same ↦
-            ap (λ n. get_or (set to i one) n d) same ∙ get_or-set_same to i one d (omega (arith, c.loop-i-test.true, c.loop-i.invariant.0, c.loop-i.auto.copies))
-            ∙ c.copy_of.ensures ∙ ap copy_of (get_or_default from (c.args.first + i) none e (omega (arith, c.loop-i-test.true, c.requires, c.loop-i.invariant.0, c.loop-i.auto.i-end)))
+            ap (λ n. get_or (set to i one) n d) same
+            ∙ get_or-set_same to i one d (omega (arith, c.loop-i-test.true, c.loop-i.invariant.0, c.loop-i.auto.copies))
+            ∙ c.copy_of.ensures ∙ ap copy_of (get_or_default from (c.args.first + i) none e
+            (omega (arith, c.loop-i-test.true, c.requires, c.loop-i.invariant.0, c.loop-i.auto.i-end)))
             ∙ ap (λ n. copy_of (get_or from (c.args.first + n) e)) (omega (arith, same))
         | inr other ↦ get_or-set_other to i k one d other ∙ c.loop-i.invariant.1 k d e (omega arith)
       ],

@@ -19,11 +19,13 @@ wire_of-requires c = live-found c.self.inside.yard c.self.inside.names c.args.cl
 
 pub returns-in-Walking-clause-position : goal.returns-in-Walking-clause-position
 returns-in-Walking-clause-position c =
-    let walks : standing_of_client c.self.inside.names c.args.client ≡ Some (Walking c.in-Walking.token) = sym c.standing.ensures ∙ c.in_ok-token.was ∙ ap Some c.in-Walking.is in
+    let walks : standing_of_client c.self.inside.names c.args.client ≡ Some (Walking c.in-Walking.token) =
+    sym c.standing.ensures ∙ c.in_ok-token.was ∙ ap Some c.in-Walking.is in
     let (client, there) = c.wire_of.ensures in
     rw (← c.self.view_is, position-found c.self.inside.yard.lists c.self.inside.names c.args.client, walks, there.found) refl
 
 pub returns-in-Holds-clause-position : goal.returns-in-Holds-clause-position
 returns-in-Holds-clause-position c =
-    let named : standing_of_client c.self.inside.names c.args.client ≡ Some (Holds c.in-Holds.name) = sym c.standing.ensures ∙ c.in_ok-token.was ∙ ap Some c.in-Holds.is in
+    let named : standing_of_client c.self.inside.names c.args.client ≡ Some (Holds c.in-Holds.name) =
+    sym c.standing.ensures ∙ c.in_ok-token.was ∙ ap Some c.in-Holds.is in
     rw (← c.self.view_is, position-found c.self.inside.yard.lists c.self.inside.names c.args.client, named) refl

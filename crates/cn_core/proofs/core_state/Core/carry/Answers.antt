@@ -13,12 +13,22 @@ entered : (c : goal.After-clear) → c.entered.result ≡ length (positions c.se
 entered c = rw (← c.self.view_is) at c.entered.ensures.value
 
 -- the state is the one in which the next epoch begins
-state-is : (c : goal.After-clear) → ◌≡◌ {A = State} (record { network = c.self.inside.network.now; base = c.self.inside.base + c.entered.result; entered = c.self.inside.entry_counts.items; passes = c.self.inside.passes.items; visits = c.self.inside.exits; clients = positions c.clear.new.self }) (after_carry (state_of c.self.inside))
+state-is : (c : goal.After-clear) → ◌≡◌ {A = State}
+    (record {
+      network = c.self.inside.network.now;
+      base = c.self.inside.base + c.entered.result;
+      entered = c.self.inside.entry_counts.items;
+      passes = c.self.inside.passes.items;
+      visits = c.self.inside.exits;
+      clients = positions c.clear.new.self;
+    })
+    (after_carry (state_of c.self.inside))
 state-is c = rw (entered c, c.clear.ensures.nobody) refl
 
 pub invariant_of-self : goal.invariant_of-self
 invariant_of-self c = record {
-  core = subst IsCore (sym (state-is c)) (IsCore-after_carry (state_of c.self.inside) c.self.invariant.core (quiet c) (rw (← c.self.view_is) at c.requires.room));
+  core = subst IsCore (sym (state-is c)) (IsCore-after_carry (state_of c.self.inside) c.self.invariant.core (quiet c)
+      (rw (← c.self.view_is) at c.requires.room));
   wires = c.clear.ensures.wires ∙ c.self.invariant.wires;
 }
 
@@ -28,4 +38,5 @@ returns-clause-visits c = rw (← c.self.view_is, entered c) (visits-after-carry
 pub returns-clause-history : goal.returns-clause-history
 returns-clause-history c =
     rw (← c.self.view_is)
-    (λ history earlier agrees. subst (λ (s : State). Agrees s [] (history ∷ earlier)) (sym (state-is c)) (Agrees-after_carry (state_of c.self.inside) history earlier (quiet c) agrees))
+    (λ history earlier agrees. subst (λ (s : State). Agrees s [] (history ∷ earlier)) (sym (state-is c))
+    (Agrees-after_carry (state_of c.self.inside) history earlier (quiet c) agrees))

@@ -16,7 +16,8 @@ invariant_of-self-2 c =
     let absent : position_in s.clients c.args.client ≡ None = search rules in
     let clients : positions c.add.new.self ≡ s.clients ++ (c.args.client, On c.args.entry) ∷ [] = search rules in
     record {
-      core = rw (c.count_one.ensures.after, clients) (IsCore-state_after_enter s c.args.client c.args.entry c.self.invariant.core (omega arith) absent (omega arith));
+      core = rw (c.count_one.ensures.after, clients)
+          (IsCore-state_after_enter s c.args.client c.args.entry c.self.invariant.core (omega arith) absent (omega arith));
       wires = c.add.ensures.wires ∙ c.self.invariant.wires;
     }
 
@@ -28,7 +29,8 @@ returns-clause-ledger c =
     let s : State = state_of c.self.inside in
     let clients : positions c.add.new.self ≡ s.clients ++ (c.args.client, On c.args.entry) ∷ [] = search rules in
     rw (← c.self.view_is, c.count_one.ensures.after, clients)
-    (λ h earlier a. ledger-enters s h (carried_by s.network.table earlier) c.args.client c.args.entry c.self.invariant.core.state (omega arith))
+    (λ h earlier a. ledger-enters s h (carried_by s.network.table earlier) c.args.client c.args.entry c.self.invariant.core.state
+    (omega arith))
 
 pub returns-then-len-ge-MOST_CLIENTS-clause-event : goal.returns-then-len-ge-MOST_CLIENTS-clause-event
 returns-then-len-ge-MOST_CLIENTS-clause-event c = search rules

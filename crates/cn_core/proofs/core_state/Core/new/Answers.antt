@@ -9,7 +9,15 @@ use Rattle.cn_core.proofs.LedgerLemmas.{IsCore-start}
 use Rattle.cn_core.proofs.core_state.Core.new.Goals as goal
 
 -- the state is that of a network that nobody has entered
-state-is : (c : goal.In_ok-new-2) → ◌≡◌ {A = State} (record { network = c.args.network.now; base = 0; entered = c.in_ok-vec.field-0.items; passes = c.in_ok-vec-2.field-0.items; visits = c.in_ok-new.field-0; clients = positions c.in_ok-new-2.field-0 }) (start c.args.network.now)
+state-is : (c : goal.In_ok-new-2) → ◌≡◌ {A = State}
+    (record {
+      network = c.args.network.now;
+      base = 0;
+      entered = c.in_ok-vec.field-0.items;
+      passes = c.in_ok-vec-2.field-0.items;
+      visits = c.in_ok-new.field-0;
+      clients = positions c.in_ok-new-2.field-0;
+    }) (start c.args.network.now)
 state-is c =
     let entered : c.in_ok-vec.field-0.items ≡ replicate c.args.network.now.table.entries 0 = search rules in
     let passes : c.in_ok-vec-2.field-0.items ≡ replicate c.args.network.now.table.balancers 0 = search rules in

@@ -10,13 +10,17 @@ loop-event-preserved c = record {
   room = search rules;
   network = search rules;
   events = λ rest new runs.
-      let joined : c.push_reserved.new.self.items ++ rest ≡ c.loop-event.replies.items ++ (c.answer-reply.result ∷ rest) = rw (c.push_reserved.ensures.items, append_assoc) refl in
+      let joined : c.push_reserved.new.self.items ++ rest ≡ c.loop-event.replies.items ++ (c.answer-reply.result ∷ rest) =
+      rw (c.push_reserved.ensures.items, append_assoc) refl in
       rw joined (c.loop-event.invariant.events (c.answer-reply.result ∷ rest) new
-      (runs_to-at c.loop-event.self c.answer-reply.new.self new c.args.events.now c.loop-event.event-index (Enter 0 0) c.answer-reply.result rest c.loop-event-test.true c.answer-reply.ensures.event c.answer-reply.ensures.ledger runs));
+      (runs_to-at c.loop-event.self c.answer-reply.new.self new c.args.events.now c.loop-event.event-index (Enter 0 0) c.answer-reply.result
+      rest c.loop-event-test.true c.answer-reply.ensures.event c.answer-reply.ensures.ledger runs));
   rest = λ rest new runs.
-      let joined : c.push_reserved.new.self.items ++ rest ≡ c.loop-event.replies.items ++ (c.answer-reply.result ∷ rest) = rw (c.push_reserved.ensures.items, append_assoc) refl in
+      let joined : c.push_reserved.new.self.items ++ rest ≡ c.loop-event.replies.items ++ (c.answer-reply.result ∷ rest) =
+      rw (c.push_reserved.ensures.items, append_assoc) refl in
       rw joined (c.loop-event.invariant.rest (c.answer-reply.result ∷ rest) new
-      (runs-at c.loop-event.self c.answer-reply.new.self new c.args.events.now c.loop-event.event-index (Enter 0 0) c.answer-reply.result rest c.loop-event-test.true c.answer-reply.ensures.history c.answer-reply.ensures.network runs));
+      (runs-at c.loop-event.self c.answer-reply.new.self new c.args.events.now c.loop-event.event-index (Enter 0 0) c.answer-reply.result
+      rest c.loop-event-test.true c.answer-reply.ensures.history c.answer-reply.ensures.network runs));
 }
 
 pub returns-clause-events : goal.returns-clause-events

@@ -11,6 +11,8 @@ invariant-loop-event l = record {
   so_far : vec_len l.replies ≡ l.event-index;
   room : length l.events ≤ vec_capacity l.replies;
   network : l.self.network ≡ l.fn.self.network;
-  events : (rest : List Reply) (new : State) → RunsTo l.self (drop l.event-index l.events) rest new → RunsTo l.fn.self l.events (l.replies.items ++ rest) new;
-  rest : (rest : List Reply) (new : State) → RunsByHistory l.self (drop l.event-index l.events) rest new → RunsByHistory l.fn.self l.events (l.replies.items ++ rest) new;
+  events : (rest : List Reply) (new : State) → RunsTo l.self (drop l.event-index l.events) rest new
+      → RunsTo l.fn.self l.events (l.replies.items ++ rest) new;
+  rest : (rest : List Reply) (new : State) → RunsByHistory l.self (drop l.event-index l.events) rest new
+      → RunsByHistory l.fn.self l.events (l.replies.items ++ rest) new;
 }

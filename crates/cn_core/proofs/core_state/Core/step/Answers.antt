@@ -24,9 +24,11 @@ overflow_sub-name c =
     rw (c.take-visit.ensures.name, c.take-visit.ensures.visit, c.self.invariant.core.state.exits) later
 
 -- the clients once the token stands on the wire behind the balancer
-walked : (c : goal.After-walk) → positions c.walk.new.self ≡ (state_after_step (state_of c.self.inside) c.args.client (Balancer c.in-Balancer.balancer)).clients
+walked : (c : goal.After-walk) → positions c.walk.new.self
+    ≡ (state_after_step (state_of c.self.inside) c.args.client (Balancer c.in-Balancer.balancer)).clients
 walked c =
-    let token : standing_of_client c.self.inside.clients.names c.args.client ≡ Some (Walking c.in-Walking.token) = rw c.in-Walking.is at c.in-Some.ensures.token in
+    let token : standing_of_client c.self.inside.clients.names c.args.client ≡ Some (Walking c.in-Walking.token) =
+    rw c.in-Walking.is at c.in-Some.ensures.token in
     rw (c.entries.ensures.value, c.output_of.ensures, c.count_one-number.ensures.before) at (c.walk.ensures.walked c.args.client token)
 
 pub invariant_of-self : goal.invariant_of-self
@@ -34,23 +36,32 @@ invariant_of-self c =
     let s : State = state_of c.self.inside in
     let on : position_in s.clients c.args.client ≡ Some (On c.in-Walking.wire) = sym (rw c.in-Walking.is at c.in-Some.ensures.position) in
     record {
-      core = rw (c.count_one-number.ensures.after, walked c) (IsCore-state_after_step s c.args.client c.in-Walking.wire (Balancer c.in-Balancer.balancer) c.self.invariant.core on c.in-Balancer.ensures.at);
+      core = rw (c.count_one-number.ensures.after, walked c)
+          (IsCore-state_after_step s c.args.client c.in-Walking.wire (Balancer c.in-Balancer.balancer) c.self.invariant.core on
+          c.in-Balancer.ensures.at);
       wires = c.walk.ensures.wires ∙ c.self.invariant.wires;
     }
 
 pub returns-in-Balancer-clause-event : goal.returns-in-Balancer-clause-event
-returns-in-Balancer-clause-event c =
-    (c.in-Walking.wire, search rules, search rules, rw (← c.self.view_is, c.in-Balancer.ensures.at, c.count_one-number.ensures.after, walked c) refl)
+returns-in-Balancer-clause-event c = (
+  c.in-Walking.wire,
+  search rules,
+  search rules,
+  rw (← c.self.view_is, c.in-Balancer.ensures.at, c.count_one-number.ensures.after, walked c) refl,
+)
 
 pub invariant_of-self-in-Exit : goal.invariant_of-self-in-Exit
 invariant_of-self-in-Exit c =
     let s : State = state_of c.self.inside in
     let on : position_in s.clients c.args.client ≡ Some (On c.in-Walking.wire) = sym (rw c.in-Walking.is at c.in-Some.ensures.position) in
     let exits = c.self.invariant.core.state.exits in
-    let clients : positions c.settle.new.self ≡ with_position s.clients c.args.client (position_past s.network.table s.base (Exit c.in-Exit.exit) (slice_index s.visits c.in-Exit.exit)) =
+    let clients : positions c.settle.new.self
+    ≡ with_position s.clients c.args.client (position_past s.network.table s.base (Exit c.in-Exit.exit)
+    (slice_index s.visits c.in-Exit.exit)) =
     rw (c.take-visit.ensures.name, c.take-visit.ensures.visit, exits) at c.settle.ensures.settled in
     record {
-      core = rw (c.take-visit.ensures.counted, c.take-visit.ensures.visit, clients) (IsCore-state_after_step s c.args.client c.in-Walking.wire (Exit c.in-Exit.exit) c.self.invariant.core on c.in-Exit.ensures.at);
+      core = rw (c.take-visit.ensures.counted, c.take-visit.ensures.visit, clients)
+          (IsCore-state_after_step s c.args.client c.in-Walking.wire (Exit c.in-Exit.exit) c.self.invariant.core on c.in-Exit.ensures.at);
       wires = c.settle.ensures.wires ∙ c.self.invariant.wires;
     }
 
@@ -58,17 +69,20 @@ pub returns-in-Exit-clause-event : goal.returns-in-Exit-clause-event
 returns-in-Exit-clause-event c = search rules
 
 pub returns-in-Balancer-clause-history : goal.returns-in-Balancer-clause-history
-returns-in-Balancer-clause-history c = rw (← c.self.view_is) (history-step _ c.args.client _ _ c.self.invariant.core.state (rw (← c.self.view_is) at (returns-in-Balancer-clause-event c)))
+returns-in-Balancer-clause-history c = rw (← c.self.view_is)
+    (history-step _ c.args.client _ _ c.self.invariant.core.state (rw (← c.self.view_is) at (returns-in-Balancer-clause-event c)))
 
 pub returns-in-Exit-clause-history : goal.returns-in-Exit-clause-history
-returns-in-Exit-clause-history c = rw (← c.self.view_is) (history-step _ c.args.client _ _ c.self.invariant.core.state (rw (← c.self.view_is) at (returns-in-Exit-clause-event c)))
+returns-in-Exit-clause-history c = rw (← c.self.view_is)
+    (history-step _ c.args.client _ _ c.self.invariant.core.state (rw (← c.self.view_is) at (returns-in-Exit-clause-event c)))
 
 pub returns-in-Balancer-clause-ledger : goal.returns-in-Balancer-clause-ledger
 returns-in-Balancer-clause-ledger c =
     let old : State = state_of c.self.inside in
     let new : State = record old { passes = c.count_one-number.new.counts.items; clients = positions c.walk.new.self } in
     rw (← c.self.view_is)
-    (ledger-step old c.args.client (Passed c.in-Balancer.balancer c.count_one-number.result (c.entries.result + 2 * c.in-Balancer.balancer + c.output_of.result)) new
+    (ledger-step old c.args.client (Passed c.in-Balancer.balancer c.count_one-number.result
+    (c.entries.result + 2 * c.in-Balancer.balancer + c.output_of.result)) new
     c.self.invariant.core.state (rw (← c.self.view_is) at (returns-in-Balancer-clause-event c)))
 
 pub returns-in-Exit-clause-ledger : goal.returns-in-Exit-clause-ledger

@@ -13,6 +13,8 @@ invariant-loop-command l = record {
   number : l.self.number ≤ l.fn.self.number + l.command-index;
   carries : l.self.carries ≡ l.fn.self.carries;
   came : l.self.core.base + length l.self.core.clients ≤ l.fn.self.core.base + length l.fn.self.core.clients + l.command-index;
-  events : (rest : List Answer) (new : Epochs) → RunsCommandsTo l.self (drop l.command-index l.commands) rest new → RunsCommandsTo l.fn.self l.commands (l.answers.items ++ rest) new;
-  rest : (rest : List Answer) (new : Epochs) → RunsCommandsByHistory l.self (drop l.command-index l.commands) rest new → RunsCommandsByHistory l.fn.self l.commands (l.answers.items ++ rest) new;
+  events : (rest : List Answer) (new : Epochs) → RunsCommandsTo l.self (drop l.command-index l.commands) rest new
+      → RunsCommandsTo l.fn.self l.commands (l.answers.items ++ rest) new;
+  rest : (rest : List Answer) (new : Epochs) → RunsCommandsByHistory l.self (drop l.command-index l.commands) rest new
+      → RunsCommandsByHistory l.fn.self l.commands (l.answers.items ++ rest) new;
 }

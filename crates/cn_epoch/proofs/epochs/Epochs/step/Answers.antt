@@ -9,8 +9,10 @@ use Rattle.cn_epoch.proofs.epochs.Epochs.step.Goals as goal
 pub invariant_of-self : goal.invariant_of-self
 invariant_of-self c = record {
   network = c.step.ensures.network ∙ c.self.invariant.network;
-  cleared = λ clears. let (history, agrees) = c.self.invariant.cleared clears in (core.history_after history (Step c.args.client) (stepped_reply c.step.result), (c.step.ensures.history history [] agrees).1);
+  cleared = λ clears. let (history, agrees) = c.self.invariant.cleared clears in
+      (core.history_after history (Step c.args.client) (stepped_reply c.step.result), (c.step.ensures.history history [] agrees).1);
 }
 
 pub returns-clause-history : goal.returns-clause-history
-returns-clause-history c = rw (← c.self.view_is) (replied (epochs_of c.self.inside) _ (Step c.args.client) (stepped_reply c.step.result) c.step.ensures.history (refl, refl))
+returns-clause-history c = rw (← c.self.view_is)
+    (replied (epochs_of c.self.inside) _ (Step c.args.client) (stepped_reply c.step.result) c.step.ensures.history (refl, refl))

@@ -18,7 +18,8 @@ returns-in_default-holders-clause-history c =
     rw (← c.self.view_is) (memory-after (epochs_of c.self.inside) quiet)
 
 -- the record describes the state
-said : (c : goal.After-begin_next) → TellsEpoch (epochs_of c.self.inside) (record { number = c.self.inside.number; clients = c.entered.result; counts = c.in-Ok.counts; holders = c.in-Ok-holders.holders })
+said : (c : goal.After-begin_next) → TellsEpoch (epochs_of c.self.inside)
+    (record { number = c.self.inside.number; clients = c.entered.result; counts = c.in-Ok.counts; holders = c.in-Ok-holders.holders })
 said c = record {
   number = refl;
   clients = c.entered.ensures.value;
@@ -28,7 +29,8 @@ said c = record {
 }
 
 -- the next epoch begins
-begun : (c : goal.After-begin_next) → c.begin_next.new.self ≡ record { number = c.self.inside.number + 1; carries = c.self.inside.carries; core = next c.self.inside.carries c.self.inside.core }
+begun : (c : goal.After-begin_next) → c.begin_next.new.self
+    ≡ record { number = c.self.inside.number + 1; carries = c.self.inside.carries; core = next c.self.inside.carries c.self.inside.core }
 begun c = rw (← c.self.view_is) at c.begin_next.ensures
 
 pub returns-clause-event : goal.returns-clause-event
@@ -40,4 +42,5 @@ returns-clause-event c =
 pub returns-clause-history : goal.returns-clause-history
 returns-clause-history c =
     let quiet : inside_in c.self.inside.core ≡ 0 = search rules in
-    rw (← c.self.view_is) (turned-after (epochs_of c.self.inside) c.begin_next.new.self _ (said c) c.state_laws.ensures.shares quiet (begun c))
+    rw (← c.self.view_is) (turned-after (epochs_of c.self.inside) c.begin_next.new.self _ (said c) c.state_laws.ensures.shares quiet
+    (begun c))

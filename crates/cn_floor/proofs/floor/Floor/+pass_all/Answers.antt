@@ -15,7 +15,8 @@ pub returns-then-group-eq0-clause-left : goal.returns-then-group-eq0-clause-left
 unfolding placed
 returns-then-group-eq0-clause-left t c =
     let g = c.args.group.now in
-    nobody-left c.args.seat.now.me.0 c.args.wire (c.requires.group.are ∙ ap (λ (n : ℕ). placed c.args.clients.now g.first g.stride n) c.if-group-eq0.true)
+    nobody-left c.args.seat.now.me.0 c.args.wire
+    (c.requires.group.are ∙ ap (λ (n : ℕ). placed c.args.clients.now g.first g.stride n) c.if-group-eq0.true)
 
 pub let_by-end-requires-clause-tokens : goal.let_by-end-requires-clause-tokens
 let_by-end-requires-clause-tokens t c =
@@ -34,15 +35,46 @@ pass_all-requires t c =
     let clients : List ℕ = c.args.clients.now in
     let many : length (on v.tokens wire) ≡ g.count = ap length c.requires.group.are ∙ placed-many clients g.first g.stride g.count in
     let go : GoTogether start wire (Balancer b) n v w =
-    subst (λ (e : End). GoTogether start wire e n v w) c.in-Balancer.is (together start wire c.let_by-end.result.0 n v w c.start_laws.ensures c.requires.own.1 c.requires.wires c.requires.wire c.requires.once c.requires.above (omega (arith, many, c.if-group-eq0.false)) c.let_by-end.ensures.end c.let_by-end.ensures.stands c.let_by-end.ensures.went c.let_by-end.ensures.by) in
+    subst (λ (e : End). GoTogether start wire e n v w) c.in-Balancer.is
+    (together start wire c.let_by-end.result.0 n v w c.start_laws.ensures c.requires.own.1 c.requires.wires c.requires.wire
+    c.requires.once c.requires.above (omega (arith, many, c.if-group-eq0.false)) c.let_by-end.ensures.end c.let_by-end.ensures.stands
+    c.let_by-end.ensures.went c.let_by-end.ensures.by) in
     let is = dealt-so start wire b n v w go in
     let like = kin-so start wire b n v w go in
     let itself = goes-on-by-itself start wire b n v w go (many ∙ c.if-group-eq1.true) in
-    let entries : c.entries.result ≡ start.network.table.entries = c.entries.ensures.value ∙ ap (λ (x : Network). x.table.entries) c.requires.network in
-    let to : c.entries.result + 2 * b + c.output_of-output.result ≡ output_wire start.network.table b (n % 2) = omega (arith, entries, c.output_of-output.ensures) in
+    let entries : c.entries.result ≡ start.network.table.entries =
+    c.entries.ensures.value ∙ ap (λ (x : Network). x.table.entries) c.requires.network in
+    let to : c.entries.result + 2 * b + c.output_of-output.result ≡ output_wire start.network.table b (n % 2) =
+    omega (arith, entries, c.output_of-output.ensures) in
     let stand : Stand clients g (on w.tokens (c.entries.result + 2 * b + c.output_of-output.result)) =
-    subst (λ (es : List (ℕ × ℕ)). Stand clients g es) (sym itself.to ∙ ap (λ (u : ℕ). on w.tokens u) (sym to)) c.requires.group in
-    (search rules, ((c.let_by-end.ensures.seat.0 ∙ c.requires.own.0, like.start ∙ c.requires.own.1), ((c.let_by-end.ensures.seat.1, like.loads ∙ c.requires.slots.1), (is.wires, (omega (arith, entries, inside start wire b n v w go, c.output_of-output.ensures), (is.once, (c.requires.network, (stand, (λ u more. itself.above u (omega (arith, more, to)), (c.requires.room, c.requires.grants ∙ sym (grants-so start wire b n v w go)))))))))))
+    subst (λ (es : List (ℕ × ℕ)). Stand clients g es) (sym itself.to ∙ ap (λ (u : ℕ). on w.tokens u) (sym to)) c.requires.group in (
+      search rules,
+      (
+        (c.let_by-end.ensures.seat.0 ∙ c.requires.own.0, like.start ∙ c.requires.own.1),
+        (
+          (c.let_by-end.ensures.seat.1, like.loads ∙ c.requires.slots.1),
+          (
+            is.wires,
+            (
+              omega (arith, entries, inside start wire b n v w go, c.output_of-output.ensures),
+              (
+                is.once,
+                (
+                  c.requires.network,
+                  (
+                    stand,
+                    (
+                      λ u more. itself.above u (omega (arith, more, to)),
+                      (c.requires.room, c.requires.grants ∙ sym (grants-so start wire b n v w go)),
+                    ),
+                  ),
+                ),
+              ),
+            ),
+          ),
+        ),
+      ),
+    )
 
 pub returns-then-group-eq1-clause-left : goal.returns-then-group-eq1-clause-left
 returns-then-group-eq1-clause-left t c =
@@ -54,12 +86,18 @@ returns-then-group-eq1-clause-left t c =
     let b : ℕ = c.in-Balancer.balancer in
     let n : ℕ = c.let_by-end.result.1 in
     let g = c.args.group.now in
-    let many : length (on v.tokens wire) ≡ g.count = ap length c.requires.group.are ∙ placed-many c.args.clients.now g.first g.stride g.count in
+    let many : length (on v.tokens wire) ≡ g.count =
+    ap length c.requires.group.are ∙ placed-many c.args.clients.now g.first g.stride g.count in
     let go : GoTogether start wire (Balancer b) n v w =
-    subst (λ (e : End). GoTogether start wire e n v w) c.in-Balancer.is (together start wire c.let_by-end.result.0 n v w c.start_laws.ensures c.requires.own.1 c.requires.wires c.requires.wire c.requires.once c.requires.above (omega (arith, many, c.if-group-eq0.false)) c.let_by-end.ensures.end c.let_by-end.ensures.stands c.let_by-end.ensures.went c.let_by-end.ensures.by) in
+    subst (λ (e : End). GoTogether start wire e n v w) c.in-Balancer.is
+    (together start wire c.let_by-end.result.0 n v w c.start_laws.ensures c.requires.own.1 c.requires.wires c.requires.wire
+    c.requires.once c.requires.above (omega (arith, many, c.if-group-eq0.false)) c.let_by-end.ensures.end c.let_by-end.ensures.stands
+    c.let_by-end.ensures.went c.let_by-end.ensures.by) in
     let itself = goes-on-by-itself start wire b n v w go (many ∙ c.if-group-eq1.true) in
-    let entries : c.entries.result ≡ start.network.table.entries = c.entries.ensures.value ∙ ap (λ (y : Network). y.table.entries) c.requires.network in
-    let to : c.entries.result + 2 * b + c.output_of-output.result ≡ output_wire start.network.table b (n % 2) = omega (arith, entries, c.output_of-output.ensures) in
+    let entries : c.entries.result ≡ start.network.table.entries =
+    c.entries.ensures.value ∙ ap (λ (y : Network). y.table.entries) c.requires.network in
+    let to : c.entries.result + 2 * b + c.output_of-output.result ≡ output_wire start.network.table b (n % 2) =
+    omega (arith, entries, c.output_of-output.ensures) in
     itself.left x (subst (λ (u : ℕ). HaveLeft w x u (on w.tokens u)) to c.pass_all.ensures.left)
 
 pub pass_all-requires-in-Balancer : goal.pass_all-requires-in-Balancer
@@ -74,15 +112,46 @@ pass_all-requires-in-Balancer t c =
     let clients : List ℕ = c.args.clients.now in
     let many : length (on v.tokens wire) ≡ g.count = ap length c.requires.group.are ∙ placed-many clients g.first g.stride g.count in
     let go : GoTogether start wire (Balancer b) n v w =
-    subst (λ (e : End). GoTogether start wire e n v w) c.in-Balancer.is (together start wire c.let_by-end.result.0 n v w c.start_laws.ensures c.requires.own.1 c.requires.wires c.requires.wire c.requires.once c.requires.above (omega (arith, many, c.if-group-eq0.false)) c.let_by-end.ensures.end c.let_by-end.ensures.stands c.let_by-end.ensures.went c.let_by-end.ensures.by) in
+    subst (λ (e : End). GoTogether start wire e n v w) c.in-Balancer.is
+    (together start wire c.let_by-end.result.0 n v w c.start_laws.ensures c.requires.own.1 c.requires.wires c.requires.wire
+    c.requires.once c.requires.above (omega (arith, many, c.if-group-eq0.false)) c.let_by-end.ensures.end c.let_by-end.ensures.stands
+    c.let_by-end.ensures.went c.let_by-end.ensures.by) in
     let is = dealt-so start wire b n v w go in
     let like = kin-so start wire b n v w go in
-    let entries : c.entries.result ≡ start.network.table.entries = c.entries.ensures.value ∙ ap (λ (x : Network). x.table.entries) c.requires.network in
+    let entries : c.entries.result ≡ start.network.table.entries =
+    c.entries.ensures.value ∙ ap (λ (x : Network). x.table.entries) c.requires.network in
     let to : c.entries.result + 2 * b + 1 ≡ output_wire start.network.table b 1 = omega (arith, entries) in
     let stand : Stand clients c.deal.result.1 (on w.tokens (c.entries.result + 2 * b + 1)) =
     subst (λ (es : List (ℕ × ℕ)). Stand clients c.deal.result.1 es)
-    ((λ i. every_second (1 - c.output_of-output.ensures i) (sym c.requires.group.are i)) ∙ sym is.second ∙ ap (λ (u : ℕ). on w.tokens u) (sym to)) c.deal.ensures.lower in
-    (search rules, ((c.let_by-end.ensures.seat.0 ∙ c.requires.own.0, like.start ∙ c.requires.own.1), ((c.let_by-end.ensures.seat.1, like.loads ∙ c.requires.slots.1), (is.wires, (omega (arith, entries, inside start wire b n v w go), (is.once, (c.requires.network, (stand, (λ u more. above-second start wire b n v w go u (omega (arith, more, to)), (omega (arith, c.requires.room, c.deal.ensures.all), c.requires.grants ∙ sym (grants-so start wire b n v w go)))))))))))
+    ((λ i. every_second (1 - c.output_of-output.ensures i) (sym c.requires.group.are i)) ∙ sym is.second
+    ∙ ap (λ (u : ℕ). on w.tokens u) (sym to)) c.deal.ensures.lower in (
+      search rules,
+      (
+        (c.let_by-end.ensures.seat.0 ∙ c.requires.own.0, like.start ∙ c.requires.own.1),
+        (
+          (c.let_by-end.ensures.seat.1, like.loads ∙ c.requires.slots.1),
+          (
+            is.wires,
+            (
+              omega (arith, entries, inside start wire b n v w go),
+              (
+                is.once,
+                (
+                  c.requires.network,
+                  (
+                    stand,
+                    (
+                      λ u more. above-second start wire b n v w go u (omega (arith, more, to)),
+                      (omega (arith, c.requires.room, c.deal.ensures.all), c.requires.grants ∙ sym (grants-so start wire b n v w go)),
+                    ),
+                  ),
+                ),
+              ),
+            ),
+          ),
+        ),
+      ),
+    )
 
 pub pass_all-requires-in-Balancer-2 : goal.pass_all-requires-in-Balancer-2
 pass_all-requires-in-Balancer-2 t c =
@@ -97,24 +166,62 @@ pass_all-requires-in-Balancer-2 t c =
     let clients : List ℕ = c.args.clients.now in
     let many : length (on v.tokens wire) ≡ g.count = ap length c.requires.group.are ∙ placed-many clients g.first g.stride g.count in
     let go : GoTogether start wire (Balancer b) n v w =
-    subst (λ (e : End). GoTogether start wire e n v w) c.in-Balancer.is (together start wire c.let_by-end.result.0 n v w c.start_laws.ensures c.requires.own.1 c.requires.wires c.requires.wire c.requires.once c.requires.above (omega (arith, many, c.if-group-eq0.false)) c.let_by-end.ensures.end c.let_by-end.ensures.stands c.let_by-end.ensures.went c.let_by-end.ensures.by) in
+    subst (λ (e : End). GoTogether start wire e n v w) c.in-Balancer.is
+    (together start wire c.let_by-end.result.0 n v w c.start_laws.ensures c.requires.own.1 c.requires.wires c.requires.wire
+    c.requires.once c.requires.above (omega (arith, many, c.if-group-eq0.false)) c.let_by-end.ensures.end c.let_by-end.ensures.stands
+    c.let_by-end.ensures.went c.let_by-end.ensures.by) in
     let is = dealt-so start wire b n v w go in
     let like = kin-so start wire b n v w go in
-    let entries : c.entries.result ≡ start.network.table.entries = c.entries.ensures.value ∙ ap (λ (x : Network). x.table.entries) c.requires.network in
+    let entries : c.entries.result ≡ start.network.table.entries =
+    c.entries.ensures.value ∙ ap (λ (x : Network). x.table.entries) c.requires.network in
     let to0 : c.entries.result + 2 * b ≡ output_wire start.network.table b 0 = omega (arith, entries) in
     let to1 : c.entries.result + 2 * b + 1 ≡ output_wire start.network.table b 1 = omega (arith, entries) in
     let left : HaveLeft w mid (output_wire start.network.table b 1) (on w.tokens (output_wire start.network.table b 1)) =
     subst (λ (u : ℕ). HaveLeft w mid u (on w.tokens u)) to1 c.pass_all-in-Balancer.ensures.left in
     let stand : Stand clients c.deal.result.0 (on mid.tokens (c.entries.result + 2 * b)) =
     subst (λ (es : List (ℕ × ℕ)). Stand clients c.deal.result.0 es)
-    ((λ i. every_second (c.output_of-output.ensures i) (sym c.requires.group.are i)) ∙ sym (first-stand start wire b n v w go mid left) ∙ ap (λ (u : ℕ). on mid.tokens u) (sym to0)) c.deal.ensures.upper in
+    ((λ i. every_second (c.output_of-output.ensures i) (sym c.requires.group.are i)) ∙ sym (first-stand start wire b n v w go mid left)
+    ∙ ap (λ (u : ℕ). on mid.tokens u) (sym to0)) c.deal.ensures.upper in
     let lower : length (on w.tokens (output_wire start.network.table b 1)) ≡ c.deal.result.1.count =
-    ap length (is.second ∙ (λ i. every_second (1 - sym c.output_of-output.ensures i) (c.requires.group.are i)) ∙ c.deal.ensures.lower.are) ∙ placed-many clients c.deal.result.1.first c.deal.result.1.stride c.deal.result.1.count in
+    ap length (is.second ∙ (λ i. every_second (1 - sym c.output_of-output.ensures i) (c.requires.group.are i)) ∙ c.deal.ensures.lower.are)
+    ∙ placed-many clients c.deal.result.1.first c.deal.result.1.stride c.deal.result.1.count in
     let (more, grew, theirs) = left.grants in
     let grants : length c.pass_all-in-Balancer.new.grants.items ≡ length c.args.grants.now.items + c.deal.result.1.count =
     ap length (c.pass_all-in-Balancer.ensures.grants ∙ grew) ∙ length-append w.grants more
-    ∙ (λ i. length ((grants-so start wire b n v w go ∙ sym c.requires.grants) i) + (theirs.as_many ∙ lower) i) in
-    (search rules, ((c.pass_all-in-Balancer.ensures.seat.0 ∙ c.let_by-end.ensures.seat.0 ∙ c.requires.own.0, left.start ∙ like.start ∙ c.requires.own.1), ((c.pass_all-in-Balancer.ensures.seat.1, left.loads ∙ like.loads ∙ c.requires.slots.1), (left.wires ∙ is.wires, (omega (arith, entries, inside start wire b n v w go), (c.pass_all-in-Balancer.ensures.once, (c.requires.network, (stand, (λ u past. above-first start wire b n v w go mid left u (omega (arith, past, to0)), (omega (arith, c.requires.room, c.deal.ensures.all, grants, c.pass_all-in-Balancer.ensures.capacity), c.pass_all-in-Balancer.ensures.grants))))))))))
+    ∙ (λ i. length ((grants-so start wire b n v w go ∙ sym c.requires.grants) i) + (theirs.as_many ∙ lower) i) in (
+      search rules,
+      (
+        (
+          c.pass_all-in-Balancer.ensures.seat.0 ∙ c.let_by-end.ensures.seat.0 ∙ c.requires.own.0,
+          left.start ∙ like.start ∙ c.requires.own.1,
+        ),
+        (
+          (c.pass_all-in-Balancer.ensures.seat.1, left.loads ∙ like.loads ∙ c.requires.slots.1),
+          (
+            left.wires ∙ is.wires,
+            (
+              omega (arith, entries, inside start wire b n v w go),
+              (
+                c.pass_all-in-Balancer.ensures.once,
+                (
+                  c.requires.network,
+                  (
+                    stand,
+                    (
+                      λ u past. above-first start wire b n v w go mid left u (omega (arith, past, to0)),
+                      (
+                        omega (arith, c.requires.room, c.deal.ensures.all, grants, c.pass_all-in-Balancer.ensures.capacity),
+                        c.pass_all-in-Balancer.ensures.grants,
+                      ),
+                    ),
+                  ),
+                ),
+              ),
+            ),
+          ),
+        ),
+      ),
+    )
 
 pub returns-else-group-eq1-clause-left : goal.returns-else-group-eq1-clause-left
 returns-else-group-eq1-clause-left t c =
@@ -127,10 +234,15 @@ returns-else-group-eq1-clause-left t c =
     let b : ℕ = c.in-Balancer.balancer in
     let n : ℕ = c.let_by-end.result.1 in
     let g = c.args.group.now in
-    let many : length (on v.tokens wire) ≡ g.count = ap length c.requires.group.are ∙ placed-many c.args.clients.now g.first g.stride g.count in
+    let many : length (on v.tokens wire) ≡ g.count =
+    ap length c.requires.group.are ∙ placed-many c.args.clients.now g.first g.stride g.count in
     let go : GoTogether start wire (Balancer b) n v w =
-    subst (λ (e : End). GoTogether start wire e n v w) c.in-Balancer.is (together start wire c.let_by-end.result.0 n v w c.start_laws.ensures c.requires.own.1 c.requires.wires c.requires.wire c.requires.once c.requires.above (omega (arith, many, c.if-group-eq0.false)) c.let_by-end.ensures.end c.let_by-end.ensures.stands c.let_by-end.ensures.went c.let_by-end.ensures.by) in
-    let entries : c.entries.result ≡ start.network.table.entries = c.entries.ensures.value ∙ ap (λ (y : Network). y.table.entries) c.requires.network in
+    subst (λ (e : End). GoTogether start wire e n v w) c.in-Balancer.is
+    (together start wire c.let_by-end.result.0 n v w c.start_laws.ensures c.requires.own.1 c.requires.wires c.requires.wire
+    c.requires.once c.requires.above (omega (arith, many, c.if-group-eq0.false)) c.let_by-end.ensures.end c.let_by-end.ensures.stands
+    c.let_by-end.ensures.went c.let_by-end.ensures.by) in
+    let entries : c.entries.result ≡ start.network.table.entries =
+    c.entries.ensures.value ∙ ap (λ (y : Network). y.table.entries) c.requires.network in
     let to0 : c.entries.result + 2 * b ≡ output_wire start.network.table b 0 = omega (arith, entries) in
     let to1 : c.entries.result + 2 * b + 1 ≡ output_wire start.network.table b 1 = omega (arith, entries) in
     left-so start wire b n v w go mid x (subst (λ (u : ℕ). HaveLeft w mid u (on w.tokens u)) to1 c.pass_all-in-Balancer.ensures.left)
@@ -141,11 +253,24 @@ returns-then-group-eq0-clause-swept t c = swept-none c.args.self.now.start c.arg
 
 pub returns-then-group-eq1-clause-swept : goal.returns-then-group-eq1-clause-swept
 returns-then-group-eq1-clause-swept t c =
-    swept-first c.args.self.now.start c.args.wire c.let_by-end.result.0 c.let_by-end.result.1 _ _ _ c.let_by-end.ensures.end c.let_by-end.ensures.went (omega (arith, ap length c.requires.group.are ∙ placed-many c.args.clients.now c.args.group.now.first c.args.group.now.stride c.args.group.now.count, c.if-group-eq0.false)) c.let_by-end.ensures.by c.pass_all.ensures.swept
+    swept-first c.args.self.now.start c.args.wire c.let_by-end.result.0 c.let_by-end.result.1 _ _ _ c.let_by-end.ensures.end
+    c.let_by-end.ensures.went (omega (
+      arith,
+      ap length c.requires.group.are ∙ placed-many c.args.clients.now c.args.group.now.first c.args.group.now.stride
+          c.args.group.now.count,
+      c.if-group-eq0.false,
+    )) c.let_by-end.ensures.by c.pass_all.ensures.swept
 
 pub returns-else-group-eq1-clause-swept : goal.returns-else-group-eq1-clause-swept
 returns-else-group-eq1-clause-swept t c =
-    swept-first c.args.self.now.start c.args.wire c.let_by-end.result.0 c.let_by-end.result.1 _ _ _ c.let_by-end.ensures.end c.let_by-end.ensures.went (omega (arith, ap length c.requires.group.are ∙ placed-many c.args.clients.now c.args.group.now.first c.args.group.now.stride c.args.group.now.count, c.if-group-eq0.false)) c.let_by-end.ensures.by (swept-both c.args.self.now.start _ _ _ c.pass_all-in-Balancer.ensures.swept c.pass_all-in-Balancer-2.ensures.swept)
+    swept-first c.args.self.now.start c.args.wire c.let_by-end.result.0 c.let_by-end.result.1 _ _ _ c.let_by-end.ensures.end
+    c.let_by-end.ensures.went (omega (
+      arith,
+      ap length c.requires.group.are ∙ placed-many c.args.clients.now c.args.group.now.first c.args.group.now.stride
+          c.args.group.now.count,
+      c.if-group-eq0.false,
+    )) c.let_by-end.ensures.by
+    (swept-both c.args.self.now.start _ _ _ c.pass_all-in-Balancer.ensures.swept c.pass_all-in-Balancer-2.ensures.swept)
 
 module _ (t : ℕ) (c : goal.After-grant_all-arg-in-Exit-1 t) where
   abbrev start : Start
@@ -161,14 +286,18 @@ module _ (t : ℕ) (c : goal.After-grant_all-arg-in-Exit-1 t) where
   width = c.width-width.ensures.value ∙ ap (λ (x : Network). x.table.width) c.requires.network
 
   by : AreLetBy start v c.let_by-end.new.seat.me.0 c.args.wire (Exit c.in-Exit.exit) c.let_by-end.result.1
-  by = subst (λ (e : End). AreLetBy start v c.let_by-end.new.seat.me.0 c.args.wire e c.let_by-end.result.1) c.in-Exit.is c.let_by-end.ensures.by
+  by = subst (λ (e : End). AreLetBy start v c.let_by-end.new.seat.me.0 c.args.wire e c.let_by-end.result.1) c.in-Exit.is
+      c.let_by-end.ensures.by
 
 pub grant_all-requires-clause-low : goal.grant_all-requires-clause-low
 grant_all-requires-clause-low t c =
-    subst (λ (x : ℕ × ℕ). x.0 ≤ step.name_of x.1 c.in-Exit.exit c.let_by-end.result.1) (λ i. (sym (begun t c) i, sym (width t c) i)) ((by t c).late c.in-Exit.exit refl)
+    subst (λ (x : ℕ × ℕ). x.0 ≤ step.name_of x.1 c.in-Exit.exit c.let_by-end.result.1) (λ i. (sym (begun t c) i, sym (width t c) i))
+    ((by t c).late c.in-Exit.exit refl)
 
 -- all of the group left by the exit
-left : (t : ℕ) (c : goal.After-grant_all t) → GoTogether c.args.self.now.start c.args.wire (Exit c.in-Exit.exit) c.let_by-end.result.1 c.args.seat.now.me.0 c.let_by-end.new.seat.me.0
+left : (t : ℕ) (c : goal.After-grant_all t)
+    → GoTogether c.args.self.now.start c.args.wire (Exit c.in-Exit.exit) c.let_by-end.result.1 c.args.seat.now.me.0
+    c.let_by-end.new.seat.me.0
 left t c =
     let start : Start = c.args.self.now.start in
     let wire : ℕ = c.args.wire in
@@ -176,8 +305,12 @@ left t c =
     let w : View = c.let_by-end.new.seat.me.0 in
     let n : ℕ = c.let_by-end.result.1 in
     let g = c.args.group.now in
-    let many : length (on v.tokens wire) ≡ g.count = ap length c.requires.group.are ∙ placed-many c.args.clients.now g.first g.stride g.count in
-    subst (λ (e : End). GoTogether start wire e n v w) c.in-Exit.is (together start wire c.let_by-end.result.0 n v w c.start_laws.ensures c.requires.own.1 c.requires.wires c.requires.wire c.requires.once c.requires.above (omega (arith, many, c.if-group-eq0.false)) c.let_by-end.ensures.end c.let_by-end.ensures.stands c.let_by-end.ensures.went c.let_by-end.ensures.by)
+    let many : length (on v.tokens wire) ≡ g.count =
+    ap length c.requires.group.are ∙ placed-many c.args.clients.now g.first g.stride g.count in
+    subst (λ (e : End). GoTogether start wire e n v w) c.in-Exit.is
+    (together start wire c.let_by-end.result.0 n v w c.start_laws.ensures c.requires.own.1 c.requires.wires c.requires.wire
+    c.requires.once c.requires.above (omega (arith, many, c.if-group-eq0.false)) c.let_by-end.ensures.end c.let_by-end.ensures.stands
+    c.let_by-end.ensures.went c.let_by-end.ensures.by)
 
 pub grant_all-requires-clause-high : goal.grant_all-requires-clause-high
 grant_all-requires-clause-high t c =
@@ -188,9 +321,13 @@ grant_all-requires-clause-high t c =
     let n : ℕ = c.let_by-end.result.1 in
     let i : ℕ = c.in-Exit.exit in
     let g = c.args.group.now in
-    let many : length (on v.tokens wire) ≡ g.count = ap length c.requires.group.are ∙ placed-many c.args.clients.now g.first g.stride g.count in
+    let many : length (on v.tokens wire) ≡ g.count =
+    ap length c.requires.group.are ∙ placed-many c.args.clients.now g.first g.stride g.count in
     let go : GoTogether start wire (Exit i) n v w =
-    subst (λ (e : End). GoTogether start wire e n v w) c.in-Exit.is (together start wire c.let_by-end.result.0 n v w c.start_laws.ensures c.requires.own.1 c.requires.wires c.requires.wire c.requires.once c.requires.above (omega (arith, many, c.if-group-eq0.false)) c.let_by-end.ensures.end c.let_by-end.ensures.stands c.let_by-end.ensures.went c.let_by-end.ensures.by) in
+    subst (λ (e : End). GoTogether start wire e n v w) c.in-Exit.is
+    (together start wire c.let_by-end.result.0 n v w c.start_laws.ensures c.requires.own.1 c.requires.wires c.requires.wire
+    c.requires.once c.requires.above (omega (arith, many, c.if-group-eq0.false)) c.let_by-end.ensures.end c.let_by-end.ensures.stands
+    c.let_by-end.ensures.went c.let_by-end.ensures.by) in
     omega (
       arith,
       names-fit start wire i n v w c.start_laws.ensures go (omega (arith, c.start_laws.ensures.network.formed.width)),
@@ -200,15 +337,23 @@ grant_all-requires-clause-high t c =
 
 pub returns-in-Exit-clause-swept : goal.returns-in-Exit-clause-swept
 returns-in-Exit-clause-swept t c =
-    swept-first c.args.self.now.start c.args.wire c.let_by-end.result.0 c.let_by-end.result.1 _ _ _ c.let_by-end.ensures.end c.let_by-end.ensures.went (omega (arith, ap length c.requires.group.are ∙ placed-many c.args.clients.now c.args.group.now.first c.args.group.now.stride c.args.group.now.count, c.if-group-eq0.false)) c.let_by-end.ensures.by (swept-none c.args.self.now.start _)
+    swept-first c.args.self.now.start c.args.wire c.let_by-end.result.0 c.let_by-end.result.1 _ _ _ c.let_by-end.ensures.end
+    c.let_by-end.ensures.went (omega (
+      arith,
+      ap length c.requires.group.are ∙ placed-many c.args.clients.now c.args.group.now.first c.args.group.now.stride
+          c.args.group.now.count,
+      c.if-group-eq0.false,
+    )) c.let_by-end.ensures.by (swept-none c.args.self.now.start _)
 
 pub returns-in-Exit-clause-left : goal.returns-in-Exit-clause-left
 returns-in-Exit-clause-left t c =
-    (left-by c.args.self.now.start c.args.wire c.in-Exit.exit c.let_by-end.result.1 c.args.seat.now.me.0 c.let_by-end.new.seat.me.0 (left t c)).0
+    (left-by c.args.self.now.start c.args.wire c.in-Exit.exit c.let_by-end.result.1 c.args.seat.now.me.0 c.let_by-end.new.seat.me.0
+    (left t c)).0
 
 pub returns-in-Exit-clause-once : goal.returns-in-Exit-clause-once
 returns-in-Exit-clause-once t c =
-    (left-by c.args.self.now.start c.args.wire c.in-Exit.exit c.let_by-end.result.1 c.args.seat.now.me.0 c.let_by-end.new.seat.me.0 (left t c)).1
+    (left-by c.args.self.now.start c.args.wire c.in-Exit.exit c.let_by-end.result.1 c.args.seat.now.me.0 c.let_by-end.new.seat.me.0
+    (left t c)).1
 
 pub returns-in-Exit-clause-grants : goal.returns-in-Exit-clause-grants
 returns-in-Exit-clause-grants t c =
@@ -216,8 +361,10 @@ returns-in-Exit-clause-grants t c =
     let i : ℕ = c.in-Exit.exit in
     let n : ℕ = c.let_by-end.result.1 in
     let begun : c.self.inside.base ≡ base start = c.self.invariant.base ∙ ap (λ (h : FloorValue). base h.start) c.self.view_is in
-    let width : c.width-width.result ≡ start.network.table.width = c.width-width.ensures.value ∙ ap (λ (x : Network). x.table.width) c.requires.network in
-    c.grant_all.ensures.granted ∙ (λ x. c.requires.grants x ++ grants_out (width x) (begun x) i n (sym c.requires.group.are x)) ∙ sym (grants-by start c.args.wire i n c.args.seat.now.me.0 c.let_by-end.new.seat.me.0 (left t c))
+    let width : c.width-width.result ≡ start.network.table.width =
+    c.width-width.ensures.value ∙ ap (λ (x : Network). x.table.width) c.requires.network in
+    c.grant_all.ensures.granted ∙ (λ x. c.requires.grants x ++ grants_out (width x) (begun x) i n (sym c.requires.group.are x))
+    ∙ sym (grants-by start c.args.wire i n c.args.seat.now.me.0 c.let_by-end.new.seat.me.0 (left t c))
 
 pub overflow_mul-out : goal.overflow_mul-out
 overflow_mul-out t c =
@@ -235,7 +382,14 @@ pub overflow_add-out-then-group-eq1 : goal.overflow_add-out-then-group-eq1
 overflow_add-out-then-group-eq1 t c =
     let stands : Stands c.args.self.now.start.network.table (Balancer c.in-Balancer.balancer) =
     subst (λ (e : End). Stands c.args.self.now.start.network.table e) c.in-Balancer.is c.let_by-end.ensures.stands in
-    omega (arith, stands, c.start_laws.ensures.network.formed.balancers, c.entries.ensures.value, c.entries.ensures.network.formed.entries, c.output_of-output.ensures)
+    omega (
+      arith,
+      stands,
+      c.start_laws.ensures.network.formed.balancers,
+      c.entries.ensures.value,
+      c.entries.ensures.network.formed.entries,
+      c.output_of-output.ensures,
+    )
 
 pub overflow_add-out-in-Balancer : goal.overflow_add-out-in-Balancer
 overflow_add-out-in-Balancer t c =
@@ -262,8 +416,10 @@ pub returns-then-group-eq1-clause-seat : goal.returns-then-group-eq1-clause-seat
 returns-then-group-eq1-clause-seat t c = (c.pass_all.ensures.seat.0 ∙ c.let_by-end.ensures.seat.0, c.pass_all.ensures.seat.1)
 
 pub returns-else-group-eq1-clause-seat : goal.returns-else-group-eq1-clause-seat
-returns-else-group-eq1-clause-seat t c =
-    (c.pass_all-in-Balancer-2.ensures.seat.0 ∙ c.pass_all-in-Balancer.ensures.seat.0 ∙ c.let_by-end.ensures.seat.0, c.pass_all-in-Balancer-2.ensures.seat.1)
+returns-else-group-eq1-clause-seat t c = (
+  c.pass_all-in-Balancer-2.ensures.seat.0 ∙ c.pass_all-in-Balancer.ensures.seat.0 ∙ c.let_by-end.ensures.seat.0,
+  c.pass_all-in-Balancer-2.ensures.seat.1,
+)
 
 pub returns-else-group-eq1-clause-capacity : goal.returns-else-group-eq1-clause-capacity
 returns-else-group-eq1-clause-capacity t c = c.pass_all-in-Balancer-2.ensures.capacity ∙ c.pass_all-in-Balancer.ensures.capacity

@@ -15,7 +15,8 @@ returns-then-entered-taken-clause-refused c =
     let e = c.close-table.ensures.ending in
     let out : tokens_in v.tokens ≡ 0 = ap tokens_in c.taker.invariant.out ∙ nobody-in (length v.start.network.table.ends) in
     let clients : c.clients_of-clients.result ≡ clients_in start.network.table ws =
-    c.clients_of-clients.ensures ∙ ap (λ (n : Network). clients_in n.table ws) (c.network.ensures ∙ ap (λ (w : WordsValue). w.network) c.self.invariant.before) in
+    c.clients_of-clients.ensures ∙ ap (λ (n : Network). clients_in n.table ws)
+    (c.network.ensures ∙ ap (λ (w : WordsValue). w.network) c.self.invariant.before) in
     let about : start ≡ c.args.self.start = ap (λ (h : FloorValue). h.start) c.self.view_is in
     let view : v ≡ c.args.taker.view = ap (λ (t : TakerValue). t.view) c.taker.view_is in
     let entered : ℕ = c.clients_of-clients.result - c.self.inside.base in
@@ -31,8 +32,10 @@ returns-then-entered-taken-clause-refused c =
             let own = e.sole (omega (arith, whole, e.within)) in
             absurd (omega (arith, own, all, out, clients, c.taker.invariant.taken, c.self.invariant.base, c.if-entered-taken.true))
       ];
-    } in
-    (c.taker.invariant.taken ∙ ap (λ (x : View). length x.grants) view, subst (λ (z : Start × View). IsMissing z.0 z.1 entered) (λ i. (about i, view i)) missing)
+    } in (
+      c.taker.invariant.taken ∙ ap (λ (x : View). length x.grants) view,
+      subst (λ (z : Start × View). IsMissing z.0 z.1 entered) (λ i. (about i, view i)) missing,
+    )
 
 pub filled-words-requires-clause-closed : goal.filled-words-requires-clause-closed
 filled-words-requires-clause-closed c =
@@ -42,7 +45,8 @@ filled-words-requires-clause-closed c =
     let e = c.close-table.ensures.ending in
     let out : tokens_in v.tokens ≡ 0 = ap tokens_in c.taker.invariant.out ∙ nobody-in (length v.start.network.table.ends) in
     let clients : c.clients_of-clients.result ≡ clients_in start.network.table ws =
-    c.clients_of-clients.ensures ∙ ap (λ (n : Network). clients_in n.table ws) (c.network.ensures ∙ ap (λ (w : WordsValue). w.network) c.self.invariant.before) in
+    c.clients_of-clients.ensures ∙ ap (λ (n : Network). clients_in n.table ws)
+    (c.network.ensures ∙ ap (λ (w : WordsValue). w.network) c.self.invariant.before) in
     let about : start ≡ c.args.self.start = ap (λ (h : FloorValue). h.start) c.self.view_is in
     let view : v ≡ c.args.taker.view = ap (λ (t : TakerValue). t.view) c.taker.view_is in
     let is : IsClosedFloor start v ws =
@@ -63,12 +67,14 @@ returns-clause-words c =
     let e = c.close-table.ensures.ending in
     let out : tokens_in v.tokens ≡ 0 = ap tokens_in c.taker.invariant.out ∙ nobody-in (length v.start.network.table.ends) in
     let clients : c.clients_of-clients.result ≡ clients_in start.network.table ws =
-    c.clients_of-clients.ensures ∙ ap (λ (n : Network). clients_in n.table ws) (c.network.ensures ∙ ap (λ (w : WordsValue). w.network) c.self.invariant.before) in
+    c.clients_of-clients.ensures ∙ ap (λ (n : Network). clients_in n.table ws)
+    (c.network.ensures ∙ ap (λ (w : WordsValue). w.network) c.self.invariant.before) in
     let about : start ≡ c.args.self.start = ap (λ (h : FloorValue). h.start) c.self.view_is in
     let view : v ≡ c.args.taker.view = ap (λ (t : TakerValue). t.view) c.taker.view_is in
     let is : IsClosedFloor start v ws =
     e.closed_floor out (omega (arith, clients, c.taker.invariant.taken, e.granted, c.self.invariant.base, c.if-entered-taken.false)) in
     let words = c.filled-words.ensures in (
       subst (λ (z : Start × View × List ℕ). IsClosedFloor z.0 z.1 z.2) (λ i. (about i, view i, (sym words i).words)) is,
-      words ∙ (λ i. record (c.self.invariant.before i) { words = (sym words i).words }) ∙ (λ i. record (words_before (about i)) { words = c.filled-words.result.words }),
+      words ∙ (λ i. record (c.self.invariant.before i) { words = (sym words i).words })
+          ∙ (λ i. record (words_before (about i)) { words = c.filled-words.result.words }),
     )

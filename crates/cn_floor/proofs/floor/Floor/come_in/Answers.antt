@@ -10,6 +10,7 @@ enter_list-requires-clause-entry c =
 
 pub returns-clause-came : goal.returns-clause-came
 returns-clause-came c =
-    subst (λ (w : View). CameIn c.args.seat.now.me.0 w c.args.clients.now c.args.entry (length c.args.clients.now)) (sym c.enter_list.ensures.step.0)
+    subst (λ (w : View). CameIn c.args.seat.now.me.0 w c.args.clients.now c.args.entry (length c.args.clients.now))
+    (sym c.enter_list.ensures.step.0)
     (all-came-in c.args.seat.now.me.0 c.args.clients.now c.args.entry c.requires.out
     (omega (arith, c.requires.wires, c.start_laws.ensures.network.formed.wires, c.requires.entry)) c.requires.quota)

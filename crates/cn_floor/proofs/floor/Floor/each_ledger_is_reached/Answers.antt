@@ -7,4 +7,5 @@ pub returns-clause-sound : goal.returns-clause-sound
 returns-clause-sound c ledger reached =
     let start = c.args.self.now.start in
     let is = c.start_laws.ensures in
-    sound-led start.network.table is.network.formed reached.0 (ledger_of start.network.table start.words start.words []) ledger reached.1 is.carried.sound
+    sound-led start.network.table is.network.formed reached.0 (ledger_of start.network.table start.words start.words []) ledger reached.1
+    is.carried.sound

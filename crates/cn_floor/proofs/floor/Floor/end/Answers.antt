@@ -18,13 +18,18 @@ invariant_of-closed c =
     let network : c.network.result.now ≡ start.network = c.network.ensures ∙ ap (λ (w : WordsValue). w.network) c.self.invariant.before in
     let lane : c.of-kept.result.value ≡ c.args.lane = c.of-kept.ensures in
     let view : v ≡ c.of-kept.result.value.view = ap (λ (l : LaneValue). l.view) (c.lane.view_is ∙ sym lane) in
-    let about : start ≡ c.of-kept.result.value.home.start = ap (λ (h : FloorValue). h.start) (c.self.view_is ∙ sym c.requires.own ∙ ap (λ (l : LaneValue). l.home) (sym lane)) in
-    let small : FitsLanes start = subst FitsLanes (ap (λ (l : LaneValue). l.home.start) c.lane.view_is ∙ ap (λ (h : FloorValue). h.start) (c.requires.own ∙ sym c.self.view_is)) c.lane.invariant.small in
+    let about : start ≡ c.of-kept.result.value.home.start =
+    ap (λ (h : FloorValue). h.start) (c.self.view_is ∙ sym c.requires.own ∙ ap (λ (l : LaneValue). l.home) (sym lane)) in
+    let small : FitsLanes start = subst FitsLanes
+    (ap (λ (l : LaneValue). l.home.start) c.lane.view_is ∙ ap (λ (h : FloorValue). h.start) (c.requires.own ∙ sym c.self.view_is))
+    c.lane.invariant.small in
     let nobody : tokens_in c.lane.inside.yard.lists ≡ 0 = search rules in
     let out : tokens_in v.tokens ≡ 0 = inside-yard c.lane.inside.yard v c.lane.invariant.tokens ∙ nobody in
-    let clients : c.clients_of-clients.result ≡ clients_in start.network.table ws = c.clients_of-clients.ensures ∙ ap (λ (n : Network). clients_in n.table ws) network in
+    let clients : c.clients_of-clients.result ≡ clients_in start.network.table ws =
+    c.clients_of-clients.ensures ∙ ap (λ (n : Network). clients_in n.table ws) network in
     let granted : c.len-granted.result ≡ length v.grants = search rules in
-    let came : clients_in start.network.table ws ≡ base start + length v.grants = omega (arith, e.granted, c.self.invariant.base, c.if-entered-granted.false) in
+    let came : clients_in start.network.table ws ≡ base start + length v.grants =
+    omega (arith, e.granted, c.self.invariant.base, c.if-entered-granted.false) in
     let closed_floor : IsClosedFloor start v ws = e.closed_floor out came in
     let closed : IsClosed (record { network = start.network; words = ws; stride = start.stride }) = record {
       network = began.network;
@@ -47,9 +52,12 @@ pub invariant_of-leftovers : goal.invariant_of-leftovers
 invariant_of-leftovers c =
     let nobody : tokens_in c.lane.inside.yard.lists ≡ 0 = search rules in
     let start : Start = c.self.inside.counters.start in
-    let about : c.lane.inside.seat.me.0.start ≡ start = ap (λ (l : LaneValue). l.home.start) c.lane.view_is ∙ ap (λ (h : FloorValue). h.start) (c.requires.own ∙ sym c.self.view_is) in
+    let about : c.lane.inside.seat.me.0.start ≡ start =
+    ap (λ (l : LaneValue). l.home.start) c.lane.view_is ∙ ap (λ (h : FloorValue). h.start) (c.requires.own ∙ sym c.self.view_is) in
     let before : c.self.inside.before.network ≡ start.network = ap (λ (w : WordsValue). w.network) c.self.invariant.before in
-    let wires : length c.lane.inside.yard.lists ≡ length c.self.inside.before.network.table.ends = c.lane.invariant.wires ∙ ap (λ (s : Start). length s.network.table.ends) about ∙ ap (λ (x : Network). length x.table.ends) (sym before) in
+    let wires : length c.lane.inside.yard.lists ≡ length c.self.inside.before.network.table.ends =
+    c.lane.invariant.wires ∙ ap (λ (s : Start). length s.network.table.ends) about
+    ∙ ap (λ (x : Network). length x.table.ends) (sym before) in
     all-empty c.lane.inside.yard.lists nobody ∙ (λ x. replicate (wires x) [])
 
 pub returns-clause-leftovers : goal.returns-clause-leftovers
@@ -63,7 +71,8 @@ returns-then-entered-granted-clause-refused c =
     let e = c.close-table.ensures.ending in
     let entered : ℕ = c.clients_of-clients.result - c.self.inside.base in
     let network : c.network.result.now ≡ start.network = c.network.ensures ∙ ap (λ (w : WordsValue). w.network) c.self.invariant.before in
-    let clients : c.clients_of-clients.result ≡ clients_in start.network.table ws = c.clients_of-clients.ensures ∙ ap (λ (n : Network). clients_in n.table ws) network in
+    let clients : c.clients_of-clients.result ≡ clients_in start.network.table ws =
+    c.clients_of-clients.ensures ∙ ap (λ (n : Network). clients_in n.table ws) network in
     let granted : c.len-granted.result ≡ length v.grants = search rules in
     let nobody : tokens_in c.lane.inside.yard.lists ≡ 0 = search rules in
     let out : tokens_in v.tokens ≡ 0 = inside-yard c.lane.inside.yard v c.lane.invariant.tokens ∙ nobody in

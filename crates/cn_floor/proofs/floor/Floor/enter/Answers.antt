@@ -15,7 +15,8 @@ make_way-requires-clause-more c = omega arith
 pub admit-requires : goal.admit-requires
 admit-requires c =
     let network : c.lane.inside.seat.me.0.start.network ≡ c.network.result.now =
-    ap (λ (l : LaneValue). l.home.start.network) c.lane.view_is ∙ ap (λ (h : FloorValue). h.start.network) c.requires.own ∙ sym c.network.ensures.value in
+    ap (λ (l : LaneValue). l.home.start.network) c.lane.view_is ∙ ap (λ (h : FloorValue). h.start.network) c.requires.own
+    ∙ sym c.network.ensures.value in
     record {
       wire = omega (
         arith,
@@ -31,7 +32,8 @@ admit-requires c =
 
 pub enter-requires-clause-own : goal.enter-requires-clause-own
 enter-requires-clause-own c =
-    let home : (lane_of c.lane.inside).home ≡ c.self.inside.counters = ap (λ (l : LaneValue). l.home) c.lane.view_is ∙ c.requires.own ∙ sym c.self.view_is in
+    let home : (lane_of c.lane.inside).home ≡ c.self.inside.counters =
+    ap (λ (l : LaneValue). l.home) c.lane.view_is ∙ c.requires.own ∙ sym c.self.view_is in
     (ap (λ (h : FloorValue). h.table) home, ap (λ (h : FloorValue). h.start) home)
 
 pub enter-requires-clause-slots : goal.enter-requires-clause-slots
@@ -40,8 +42,10 @@ enter-requires-clause-slots c = (c.lane.invariant.no_slot, c.lane.invariant.idle
 pub enter-requires-clause-entry : goal.enter-requires-clause-entry
 enter-requires-clause-entry c =
     let network : c.lane.inside.seat.me.0.start.network ≡ c.network.result.now =
-    ap (λ (l : LaneValue). l.home.start.network) c.lane.view_is ∙ ap (λ (h : FloorValue). h.start.network) c.requires.own ∙ sym c.network.ensures.value in
-    let same : c.self.inside.counters.start.network ≡ c.network.result.now = ap (λ (h : FloorValue). h.start.network) c.self.view_is ∙ sym c.network.ensures.value in (
+    ap (λ (l : LaneValue). l.home.start.network) c.lane.view_is ∙ ap (λ (h : FloorValue). h.start.network) c.requires.own
+    ∙ sym c.network.ensures.value in
+    let same : c.self.inside.counters.start.network ≡ c.network.result.now =
+    ap (λ (h : FloorValue). h.start.network) c.self.view_is ∙ sym c.network.ensures.value in (
       omega (arith, ap (λ (n : Network). n.table.entries) same, c.entries.ensures.value, c.if-entry-from.false, c.from.ensures),
       omega (
         arith,
@@ -93,18 +97,22 @@ invariant_of-lane-2 c =
       room = c.lane.inside.room;
     } in
     let kept : IsLane mid = lane-with-way c.lane.inside c.make_way.new.grants was c.make_way.ensures.items c.make_way.ensures.room in
-    lane-in mid _ c.in-Ok-admit.token c.args.client kept c.enter.ensures.seat.1 c.args.entry c.enter.ensures.came.0 c.in-Ok-admit.ensures.ok refl refl (omega (arith, c.if-lane-eq0)) c.saturating_sub-lane-inside.ensures c.in-Ok.ensures.ok
+    lane-in mid _ c.in-Ok-admit.token c.args.client kept c.enter.ensures.seat.1 c.args.entry c.enter.ensures.came.0 c.in-Ok-admit.ensures.ok
+    refl refl (omega (arith, c.if-lane-eq0)) c.saturating_sub-lane-inside.ensures c.in-Ok.ensures.ok
 
 pub returns-clause-ok : goal.returns-clause-ok
 returns-clause-ok c =
     let v : View = c.lane.inside.seat.me.0 in
     let w : View = c.enter.new.seat.me.0 in
-    let begun : c.self.inside.counters.start ≡ v.start = sym (ap (λ (l : LaneValue). l.home.start) c.lane.view_is ∙ ap (λ (h : FloorValue). h.start) (c.requires.own ∙ sym c.self.view_is)) in
+    let begun : c.self.inside.counters.start ≡ v.start =
+    sym (ap (λ (l : LaneValue). l.home.start) c.lane.view_is
+    ∙ ap (λ (h : FloorValue). h.start) (c.requires.own ∙ sym c.self.view_is)) in
     let view : w ≡ after_enter c.in-Ok-admit.token c.args.client c.args.entry v = c.enter.ensures.came.0 in
     rw (← c.lane.view_is) record {
       home = λ x. record { table = c.enter.ensures.seat.0 x; start = (view x).start };
       view = view;
       yard = c.in-Ok-admit.ensures.ok;
       room = c.saturating_sub-lane-inside.ensures;
-      step = subst (λ (z : Start). IsAtomicStep z v w (λ l m. Enters z.network.table l m c.args.client c.args.entry)) begun c.enter.ensures.came.1;
+      step = subst (λ (z : Start). IsAtomicStep z v w (λ l m. Enters z.network.table l m c.args.client c.args.entry)) begun
+          c.enter.ensures.came.1;
     }

@@ -6,7 +6,8 @@ use Rattle.cn_floor.proofs.floor.Floor.grant_one.Goals as goal
 
 pub name_of-requires : goal.name_of-requires
 name_of-requires c =
-    let width : c.width.result ≡ c.args.self.now.start.network.table.width = c.width.ensures.value ∙ ap (λ (n : Network). n.table.width) c.network.ensures.value in
+    let width : c.width.result ≡ c.args.self.now.start.network.table.width =
+    c.width.ensures.value ∙ ap (λ (n : Network). n.table.width) c.network.ensures.value in
     omega (
       arith,
       name-fits _ _ _ _ _ _ _ c.start_laws.ensures c.requires.own.1 c.walk_through-exit.ensures.walked c.requires.quota,
@@ -15,9 +16,16 @@ name_of-requires c =
 
 pub returns-clause-granted : goal.returns-clause-granted
 returns-clause-granted c =
-    let width : c.width.result ≡ c.args.self.now.start.network.table.width = c.width.ensures.value ∙ ap (λ (n : Network). n.table.width) c.network.ensures.value in
-    let came : c.self.inside.base ≡ base c.args.self.now.start = c.self.invariant.base ∙ ap (λ (h : FloorValue). base h.start) c.self.view_is in
-    let named : c.name_of.result - c.self.inside.base ≡ name_of c.args.self.now.start.network.table.width c.walk_through-exit.result.0 c.walk_through-exit.result.1 - base c.args.self.now.start =
-    (λ i. c.name_of.ensures i - came i) ∙ ap (λ (k : ℕ). name_of k c.walk_through-exit.result.0 c.walk_through-exit.result.1 - base c.args.self.now.start) width in
-    subst (λ (n : ℕ). IsGranted c.args.self.now.start c.args.client c.args.entry (record { client = c.args.client; exit = c.walk_through-exit.result.0; visit = c.walk_through-exit.result.1; name = n }) c.args.seat.now.me.0 c.walk_through-exit.new.seat.me.0)
+    let width : c.width.result ≡ c.args.self.now.start.network.table.width =
+    c.width.ensures.value ∙ ap (λ (n : Network). n.table.width) c.network.ensures.value in
+    let came : c.self.inside.base ≡ base c.args.self.now.start =
+    c.self.invariant.base ∙ ap (λ (h : FloorValue). base h.start) c.self.view_is in
+    let named : c.name_of.result - c.self.inside.base
+    ≡ name_of c.args.self.now.start.network.table.width c.walk_through-exit.result.0 c.walk_through-exit.result.1 - base
+    c.args.self.now.start =
+    (λ i. c.name_of.ensures i - came i) ∙ ap
+    (λ (k : ℕ). name_of k c.walk_through-exit.result.0 c.walk_through-exit.result.1 - base c.args.self.now.start) width in
+    subst (λ (n : ℕ). IsGranted c.args.self.now.start c.args.client c.args.entry
+    (record { client = c.args.client; exit = c.walk_through-exit.result.0; visit = c.walk_through-exit.result.1; name = n })
+    c.args.seat.now.me.0 c.walk_through-exit.new.seat.me.0)
     (sym named) (granted _ _ _ _ _ _ _ c.start_laws.ensures c.requires.own.1 c.walk_through-exit.ensures.walked c.requires.quota)

@@ -17,12 +17,14 @@ look_at_both-other_seat-requires-clause-start c = (
 )
 
 pub look_at_both-other_seat-requires-clause-slots : goal.look_at_both-other_seat-requires-clause-slots
-look_at_both-other_seat-requires-clause-slots c = (c.lane.invariant.no_slot, c.lane.invariant.idle, c.other.invariant.no_slot, c.other.invariant.idle)
+look_at_both-other_seat-requires-clause-slots c =
+    (c.lane.invariant.no_slot, c.lane.invariant.idle, c.other.invariant.no_slot, c.other.invariant.idle)
 
 pub look_at_both-other_seat-requires-clause-wires : goal.look_at_both-other_seat-requires-clause-wires
 look_at_both-other_seat-requires-clause-wires c =
     let home : (lane_of c.other.inside).home ≡ (lane_of c.lane.inside).home =
-    ap (λ (l : LaneValue). l.home) c.other.view_is ∙ c.requires.own.1 ∙ sym c.requires.own.0 ∙ ap (λ (l : LaneValue). l.home) (sym c.lane.view_is) in
+    ap (λ (l : LaneValue). l.home) c.other.view_is ∙ c.requires.own.1 ∙ sym c.requires.own.0
+    ∙ ap (λ (l : LaneValue). l.home) (sym c.lane.view_is) in
     sym (ap length c.other.invariant.tokens) ∙ c.other.invariant.wires ∙ ap (λ (h : FloorValue). length h.start.network.table.ends) home
     ∙ sym c.lane.invariant.wires ∙ ap length c.lane.invariant.tokens
 
@@ -34,7 +36,8 @@ look_at_both-other_seat-requires-clause-pair c = (refl, refl)
 
 -- what the two views are in the end
 module _ (c : goal.After-look_at_both-other_seat) where
-  first : c.look_at_both-other_seat.new.seat.me.0 ≡ first_after c.args.self.now.start c.look_at_both-other_seat.result.1 c.lane.inside.seat.me.0
+  first : c.look_at_both-other_seat.new.seat.me.0
+      ≡ first_after c.args.self.now.start c.look_at_both-other_seat.result.1 c.lane.inside.seat.me.0
   first = ap (λ me. me.0) c.look_at_both-other_seat.ensures.first.1
       ∙ ap (λ (h : FloorValue). first_after h.start c.look_at_both-other_seat.result.1 c.lane.inside.seat.me.0) c.self.view_is
 
@@ -90,7 +93,8 @@ returns-clause-second c =
     let is = second c in
     let table : c.look_at_both-other_seat.result.0.table_id ≡ c.other.inside.seat.table_id =
     c.look_at_both-other_seat.ensures.second.0 ∙ ap (λ (l : LaneValue). l.home.table) c.lane.view_is
-    ∙ ap (λ (h : FloorValue). h.table) (c.requires.own.0 ∙ sym c.requires.own.1) ∙ ap (λ (l : LaneValue). l.home.table) (sym c.other.view_is) in
+    ∙ ap (λ (h : FloorValue). h.table) (c.requires.own.0 ∙ sym c.requires.own.1)
+    ∙ ap (λ (l : LaneValue). l.home.table) (sym c.other.view_is) in
     rw (← c.other.view_is) (λ i. record {
       home = record { table = table i; start = (is i).start };
       view = is i;
@@ -108,7 +112,8 @@ pub returns-clause-in_state : goal.returns-clause-in_state
 returns-clause-in_state c =
     let entered = c.look_at_both-other_seat.result.1 in
     let start : c.self.inside.counters.start ≡ c.args.self.now.start = ap (λ (h : FloorValue). h.start) c.self.view_is in
-    subst (λ (z : Start × View × View). StoodAsOne z.0 z.1 z.2 entered) (λ i. (start i, (sym (first c)) i, (sym (second c)) i)) c.look_at_both-other_seat.ensures.in_state
+    subst (λ (z : Start × View × View). StoodAsOne z.0 z.1 z.2 entered) (λ i. (start i, (sym (first c)) i, (sym (second c)) i))
+    c.look_at_both-other_seat.ensures.in_state
 
 pub returns-clause-answer : goal.returns-clause-answer
 returns-clause-answer c =

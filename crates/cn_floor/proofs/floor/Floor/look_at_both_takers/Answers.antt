@@ -18,12 +18,14 @@ look_at_both-seat-requires-clause-start c = (
 )
 
 pub look_at_both-seat-requires-clause-slots : goal.look_at_both-seat-requires-clause-slots
-look_at_both-seat-requires-clause-slots c = (c.taker.invariant.no_slot, c.taker.invariant.idle, c.other.invariant.no_slot, c.other.invariant.idle)
+look_at_both-seat-requires-clause-slots c =
+    (c.taker.invariant.no_slot, c.taker.invariant.idle, c.other.invariant.no_slot, c.other.invariant.idle)
 
 pub look_at_both-seat-requires-clause-wires : goal.look_at_both-seat-requires-clause-wires
 look_at_both-seat-requires-clause-wires c =
     let home : (taker_of c.other.inside).home ≡ (taker_of c.taker.inside).home =
-    ap (λ (t : TakerValue). t.home) c.other.view_is ∙ c.requires.own.1 ∙ sym c.requires.own.0 ∙ ap (λ (t : TakerValue). t.home) (sym c.taker.view_is) in
+    ap (λ (t : TakerValue). t.home) c.other.view_is ∙ c.requires.own.1 ∙ sym c.requires.own.0
+    ∙ ap (λ (t : TakerValue). t.home) (sym c.taker.view_is) in
     ap length (c.other.invariant.out ∙ (λ i. replicate (length (home i).start.network.table.ends) []) ∙ sym c.taker.invariant.out)
 
 pub look_at_both-seat-requires-clause-before : goal.look_at_both-seat-requires-clause-before
@@ -80,7 +82,8 @@ returns-clause-second c =
     let is = second c in
     let table : c.look_at_both-seat.result.0.table_id ≡ c.other.inside.seat.table_id =
     c.look_at_both-seat.ensures.second.0 ∙ ap (λ (t : TakerValue). t.home.table) c.taker.view_is
-    ∙ ap (λ (h : FloorValue). h.table) (c.requires.own.0 ∙ sym c.requires.own.1) ∙ ap (λ (t : TakerValue). t.home.table) (sym c.other.view_is) in
+    ∙ ap (λ (h : FloorValue). h.table) (c.requires.own.0 ∙ sym c.requires.own.1)
+    ∙ ap (λ (t : TakerValue). t.home.table) (sym c.other.view_is) in
     rw (← c.other.view_is) (λ i. record {
       home = record { table = table i; start = (is i).start };
       view = is i;
@@ -96,7 +99,8 @@ pub returns-clause-in_state : goal.returns-clause-in_state
 returns-clause-in_state c =
     let entered = c.look_at_both-seat.result.1 in
     let start : c.self.inside.counters.start ≡ c.args.self.now.start = ap (λ (h : FloorValue). h.start) c.self.view_is in
-    subst (λ (z : Start × View × View). StoodAsOne z.0 z.1 z.2 entered) (λ i. (start i, (sym (first c)) i, (sym (second c)) i)) c.look_at_both-seat.ensures.in_state
+    subst (λ (z : Start × View × View). StoodAsOne z.0 z.1 z.2 entered) (λ i. (start i, (sym (first c)) i, (sym (second c)) i))
+    c.look_at_both-seat.ensures.in_state
 
 pub returns-clause-answer : goal.returns-clause-answer
 returns-clause-answer c =

@@ -12,7 +12,8 @@ pub grant_one-grant-requires-clause-out : goal.grant_one-grant-requires-clause-o
 grant_one-grant-requires-clause-out c u =
     let held : lane_of c.lane.inside ≡ c.args.lane.now = c.lane.view_is in
     let nobody : tokens_in c.lane.inside.yard.lists ≡ 0 = ap (λ (l : LaneValue). tokens_in l.yard.lists) held ∙ c.requires.out in
-    subst (λ (ls : Lists). on ls u ≡ []) c.lane.invariant.tokens (nil_from_length (on c.lane.inside.yard.lists u) (nobody-on c.lane.inside.yard.lists nobody u))
+    subst (λ (ls : Lists). on ls u ≡ []) c.lane.invariant.tokens
+    (nil_from_length (on c.lane.inside.yard.lists u) (nobody-on c.lane.inside.yard.lists nobody u))
 
 -- if the grant gets no memory the lane is as it was
 pub invariant_of-lane : goal.invariant_of-lane
@@ -61,11 +62,13 @@ returns-clause-ok c =
       home = (λ x. record { table = c.grant_one-grant.ensures.seat.0 x; start = is.begun x }) ∙ ap (λ (l : LaneValue). l.home) held;
       exit = grant.exit;
       visit = grant.visit;
-      walked = subst (λ (z : Start × View). WalksThrough z.0 c.args.client c.args.entry grant.exit grant.visit z.1 w) (λ i. (own i, view i)) is.walked;
+      walked = subst (λ (z : Start × View). WalksThrough z.0 c.args.client c.args.entry grant.exit grant.visit z.1 w) (λ i. (own i, view i))
+          is.walked;
       quota = is.quota ∙ ap (λ (x : View). x.quota) view;
       entries = is.entries ∙ (λ x. (view x).entries ++ c.args.entry ∷ []);
       came = is.came ∙ (λ x. (view x).came ++ record { id = c.args.client; entry = c.args.entry } ∷ []);
-      grants = is.grants ∙ (λ x. (view x).grants ++ record { client = is.who x; exit = grant.exit; visit = grant.visit; name = grant.name } ∷ []);
+      grants = is.grants ∙ (λ x. (view x).grants ++ record { client = is.who x; exit = grant.exit; visit = grant.visit; name = grant.name }
+          ∷ []);
       seen = is.seen ∙ ap (λ (x : View). x.seen) view;
       low = omega (arith, is.low, ap (λ (s : Start). s.quota) own);
       in_state = subst (λ (s : Start). StoodInState s w) own is.in_state;
@@ -94,7 +97,13 @@ grant_one-grant-requires-clause-wires c =
 
 pub grant_one-grant-requires-clause-entry : goal.grant_one-grant-requires-clause-entry
 grant_one-grant-requires-clause-entry c =
-    omega (arith, c.if-entry-from.false, c.from.ensures, c.entries.ensures.value, ap (λ (n : Network). n.table.entries) c.network-network.ensures.value)
+    omega (
+      arith,
+      c.if-entry-from.false,
+      c.from.ensures,
+      c.entries.ensures.value,
+      ap (λ (n : Network). n.table.entries) c.network-network.ensures.value,
+    )
 
 pub grant_one-grant-requires-clause-quota : goal.grant_one-grant-requires-clause-quota
 grant_one-grant-requires-clause-quota c =

@@ -16,13 +16,15 @@ pub come_in-requires-clause-out : goal.come_in-requires-clause-out
 come_in-requires-clause-out c u =
     let held : lane_of c.lane.inside ≡ c.args.lane.now = c.lane.view_is in
     let nobody : tokens_in c.lane.inside.yard.lists ≡ 0 = ap (λ (l : LaneValue). tokens_in l.yard.lists) held ∙ c.requires.out in
-    subst (λ (ls : Lists). on ls u ≡ []) c.lane.invariant.tokens (nil_from_length (on c.lane.inside.yard.lists u) (nobody-on c.lane.inside.yard.lists nobody u))
+    subst (λ (ls : Lists). on ls u ≡ []) c.lane.invariant.tokens
+    (nil_from_length (on c.lane.inside.yard.lists u) (nobody-on c.lane.inside.yard.lists nobody u))
 
 pub pass_all-requires-clause-once : goal.pass_all-requires-clause-once
 pass_all-requires-clause-once c =
     let came = c.come_in.ensures.came in
     let held : lane_of c.lane.inside ≡ c.args.lane.now = c.lane.view_is in
-    let begun : c.lane.inside.seat.me.0.start ≡ c.args.self.now.start = ap (λ (l : LaneValue). l.home.start) held ∙ ap (λ (h : FloorValue). h.start) c.requires.own in
+    let begun : c.lane.inside.seat.me.0.start ≡ c.args.self.now.start =
+    ap (λ (l : LaneValue). l.home.start) held ∙ ap (λ (h : FloorValue). h.start) c.requires.own in
     came-once c.lane.inside.seat.me.0 c.come_in.new.seat.me.0 c.args.clients.now c.args.entry (length c.args.clients.now) came
     (omega (
       arith,
@@ -61,13 +63,22 @@ invariant_of-lane-2 c =
     record {
       no_slot = c.pass_all.ensures.seat.1;
       idle = left.loads ∙ came.loads ∙ was.idle;
-      tokens = all-empty c.lane.inside.yard.lists nobody ∙ (λ i. replicate (length (was.tokens i)) []) ∙ sym (nobody-stands v w x clients c.args.entry k came left);
+      tokens = all-empty c.lane.inside.yard.lists nobody ∙ (λ i. replicate (length (was.tokens i)) [])
+          ∙ sym (nobody-stands v w x clients c.args.entry k came left);
       wires = was.wires ∙ ap (λ (s : Start). length s.network.table.ends) (sym (left.start ∙ came.start));
       grants = c.pass_all.ensures.grants;
       quota = omega (arith, was.quota, came.quota, left.quota);
       small = subst FitsLanes (sym (left.start ∙ came.start)) was.small;
       few = omega (arith, was.few);
-      room = omega (arith, c.in-Ok.ensures.ok, c.saturating_sub-lane-inside.ensures, many, ap length c.make_way.ensures.items, ap length was.grants, c.pass_all.ensures.capacity);
+      room = omega (
+        arith,
+        c.in-Ok.ensures.ok,
+        c.saturating_sub-lane-inside.ensures,
+        many,
+        ap length c.make_way.ensures.items,
+        ap length was.grants,
+        c.pass_all.ensures.capacity,
+      );
       spare = omega (arith, was.spare, c.saturating_sub-lane-inside.ensures);
     }
 
@@ -133,7 +144,8 @@ pass_all-requires-clause-own c =
 pub pass_all-requires-clause-wires : goal.pass_all-requires-clause-wires
 pass_all-requires-clause-wires c =
     let home : (lane_of c.lane.inside).home ≡ c.args.self.now = ap (λ (l : LaneValue). l.home) c.lane.view_is ∙ c.requires.own in
-    c.come_in.ensures.came.wires ∙ sym (ap length c.lane.invariant.tokens) ∙ c.lane.invariant.wires ∙ ap (λ (h : FloorValue). length h.start.network.table.ends) home
+    c.come_in.ensures.came.wires ∙ sym (ap length c.lane.invariant.tokens) ∙ c.lane.invariant.wires
+    ∙ ap (λ (h : FloorValue). length h.start.network.table.ends) home
 
 pub pass_all-requires-clause-wire : goal.pass_all-requires-clause-wire
 pass_all-requires-clause-wire c =

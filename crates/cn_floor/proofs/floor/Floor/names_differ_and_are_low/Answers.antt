@@ -7,7 +7,8 @@ use Rattle.cn_floor.proofs.floor.Floor.names_differ_and_are_low.Goals as goal
 pub returns-clause-differ : goal.returns-clause-differ
 returns-clause-differ c s kept =
     let start = c.args.self.now.start in
-    λ client other exit another visit second name one two. names-differ start.network.table (ledger_at start s) kept.sound client other exit another visit second name name one two refl
+    λ client other exit another visit second name one two.
+    names-differ start.network.table (ledger_at start s) kept.sound client other exit another visit second name name one two refl
 
 pub returns-clause-once : goal.returns-clause-once
 returns-clause-once c s kept =

@@ -38,13 +38,24 @@ module _ (g : given.Over) (c : goal.After-output_of g) where
   wires = c.loop-balancer.invariant.passed.wires ∙ c.requires.wires
 
   to : c.entries.result + 2 * b + c.output_of.result ≡ output_wire v.start.network.table b (n % 2)
-  to = omega (arith, c.output_of.ensures, c.entries.ensures.value, ap (λ (x : Network). x.table.entries) network, ap (λ (s : Start). s.network.table.entries) of)
+  to = omega (
+    arith,
+    c.output_of.ensures,
+    c.entries.ensures.value,
+    ap (λ (x : Network). x.table.entries) network,
+    ap (λ (s : Start). s.network.table.entries) of,
+  )
 
   went : c.step-number.new.seat.me.0 ≡ after_step c.args.token c.args.client (Balancer b) n v
   went = c.step-number.ensures.went.0
 
   further : c.loop-balancer.at < c.entries.result + 2 * b + c.output_of.result
-  further = omega (arith, to, onward start formed v of wires c.args.token c.args.client c.loop-balancer.at b n c.loop-balancer.invariant.alone ends)
+  further = omega (
+    arith,
+    to,
+    onward start formed v of wires c.args.token c.args.client c.loop-balancer.at b n
+        c.loop-balancer.invariant.alone ends,
+  )
 
   alone : IsAlone c.step-number.new.seat.me.0.tokens c.args.token c.args.client (c.entries.result + 2 * b + c.output_of.result)
   alone =
@@ -59,16 +70,19 @@ module _ (g : given.Over) (c : goal.After-output_of g) where
 
   let-by : IsLetBy start v (after_step c.args.token c.args.client (Balancer b) n v) c.args.client (Balancer b) n
   let-by =
-      subst (λ (s : Start). IsLetBy s v (after_step c.args.token c.args.client (Balancer b) n v) c.args.client (Balancer b) n) (ap (λ (h : FloorValue). h.start) c.self.view_is)
+      subst (λ (s : Start). IsLetBy s v (after_step c.args.token c.args.client (Balancer b) n v) c.args.client (Balancer b) n)
+      (ap (λ (h : FloorValue). h.start) c.self.view_is)
       (subst (λ (w : View). IsLetBy c.self.inside.counters.start v w c.args.client (Balancer b) n) went c.step-number.ensures.went.1)
 
-  further-by : (numbers : List ℕ) × PassesOn start c.args.token c.args.client numbers c.args.wire c.args.seat.now.me.0 (c.entries.result + 2 * b + c.output_of.result) c.step-number.new.seat.me.0
+  further-by : (numbers : List ℕ) × PassesOn start c.args.token c.args.client numbers c.args.wire c.args.seat.now.me.0
+      (c.entries.result + 2 * b + c.output_of.result) c.step-number.new.seat.me.0
   further-by =
       let (ns, so) = c.loop-balancer.invariant.by in
       let onto : output_wire start.network.table b (n % 2) ≡ c.entries.result + 2 * b + c.output_of.result =
       sym (to ∙ ap (λ (s : Start). output_wire s.network.table b (n % 2)) of) in (
         ns ++ n ∷ [],
-        subst (λ (z : ℕ × View). PassesOn start c.args.token c.args.client (ns ++ n ∷ []) c.args.wire c.args.seat.now.me.0 z.0 z.1) (λ i. (onto i, sym went i))
+        subst (λ (z : ℕ × View). PassesOn start c.args.token c.args.client (ns ++ n ∷ []) c.args.wire c.args.seat.now.me.0 z.0 z.1)
+            (λ i. (onto i, sym went i))
             (passes-more start c.args.token c.args.client ns c.args.wire _ c.loop-balancer.at v b n so ends let-by),
       )
 

@@ -25,10 +25,13 @@ invariant_of-lane c =
 pub invariant_of-result : goal.invariant_of-result
 invariant_of-result c =
     let view = c.split_seat-seat.ensures.second in
-    let begun : c.lane.inside.seat.me.0.start ≡ c.args.self.now.start = ap (λ (l : LaneValue). l.home.start) c.lane.view_is ∙ ap (λ (h : FloorValue). h.start) c.requires.own in
-    let network : c.network.result.now ≡ c.lane.inside.seat.me.0.start.network = c.network.ensures.value ∙ sym (ap (λ (s : Start). s.network) begun) in
+    let begun : c.lane.inside.seat.me.0.start ≡ c.args.self.now.start =
+    ap (λ (l : LaneValue). l.home.start) c.lane.view_is ∙ ap (λ (h : FloorValue). h.start) c.requires.own in
+    let network : c.network.result.now ≡ c.lane.inside.seat.me.0.start.network =
+    c.network.ensures.value ∙ sym (ap (λ (s : Start). s.network) begun) in
     let tokens : c.yard_for-yard.result.lists ≡ c.split_seat-seat.result.me.0.tokens =
-    c.yard_for-yard.ensures.idle ∙ ap (λ (x : Network). replicate (length x.table.ends) []) network ∙ sym (ap (λ (x : View). x.tokens) view) in
+    c.yard_for-yard.ensures.idle ∙ ap (λ (x : Network). replicate (length x.table.ends) []) network
+    ∙ sym (ap (λ (x : View). x.tokens) view) in
     record {
       no_slot = c.split_seat-seat.ensures.seats.3;
       idle = ap (λ (x : View). x.loads) view;
@@ -56,9 +59,12 @@ returns-clause-first c =
 pub returns-clause-second : goal.returns-clause-second
 returns-clause-second c =
     let view = c.split_seat-seat.ensures.second in
-    let begun : c.lane.inside.seat.me.0.start ≡ c.args.self.now.start = ap (λ (l : LaneValue). l.home.start) c.lane.view_is ∙ ap (λ (h : FloorValue). h.start) c.requires.own in
-    let network : c.network.result.now ≡ c.lane.inside.seat.me.0.start.network = c.network.ensures.value ∙ sym (ap (λ (s : Start). s.network) begun) in
-    let yard : c.yard_for-yard.result ≡ empty (length c.lane.inside.seat.me.0.start.network.table.ends) = c.yard_for-yard.ensures.empty ∙ ap (λ (x : Network). empty (length x.table.ends)) network in
+    let begun : c.lane.inside.seat.me.0.start ≡ c.args.self.now.start =
+    ap (λ (l : LaneValue). l.home.start) c.lane.view_is ∙ ap (λ (h : FloorValue). h.start) c.requires.own in
+    let network : c.network.result.now ≡ c.lane.inside.seat.me.0.start.network =
+    c.network.ensures.value ∙ sym (ap (λ (s : Start). s.network) begun) in
+    let yard : c.yard_for-yard.result ≡ empty (length c.lane.inside.seat.me.0.start.network.table.ends) =
+    c.yard_for-yard.ensures.empty ∙ ap (λ (x : Network). empty (length x.table.ends)) network in
     rw (← c.lane.view_is) (λ i. record {
       home = record { table = c.split_seat-seat.ensures.seats.2 i; start = (view i).start };
       view = view i;

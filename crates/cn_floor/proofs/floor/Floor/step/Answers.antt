@@ -12,7 +12,8 @@ use Rattle.cn_yard.specs.Lists.{Moves, standing}
 pub step-number-requires-clause-there : goal.step-number-requires-clause-there
 step-number-requires-clause-there c =
     let wire : ℕ = c.wire_of-wire.result in
-    let same = there-alike c.lane.inside.yard.lists c.args.token _ c.client_of-client.result wire _ c.wire_of-wire.ensures.1 c.client_of-client.ensures.1 in
+    let same = there-alike c.lane.inside.yard.lists c.args.token _ c.client_of-client.result wire _ c.wire_of-wire.ensures.1
+    c.client_of-client.ensures.1 in
     subst (λ (ls : List (List (ℕ × ℕ))). IsThere ls c.args.token c.client_of-client.result wire) c.lane.invariant.tokens
     (subst (λ (k : ℕ). IsThere c.lane.inside.yard.lists c.args.token k wire) same.0 c.wire_of-wire.ensures.1)
 
@@ -21,9 +22,13 @@ invariant_of-lane c =
     let v = c.lane.inside.seat.me.0 in
     let b : ℕ = c.in-Balancer.balancer in
     let n : ℕ = c.step-number.result in
-    let network : v.start.network ≡ c.network-network.result.now = ap (λ (l : LaneValue). l.home.start.network) c.lane.view_is ∙ ap (λ (h : FloorValue). h.start.network) c.requires.own ∙ sym c.network-network.ensures.value in
-    let entries : c.entries.result ≡ v.start.network.table.entries = c.entries.ensures.value ∙ sym (ap (λ (x : Network). x.table.entries) network) in
-    lane-on c.lane.inside _ c.args.token c.client_of-client.result c.lane.invariant c.step-number.ensures.seat.1 b n (c.entries.result + 2 * b + c.output_of.result)
+    let network : v.start.network ≡ c.network-network.result.now =
+    ap (λ (l : LaneValue). l.home.start.network) c.lane.view_is ∙ ap (λ (h : FloorValue). h.start.network) c.requires.own
+    ∙ sym c.network-network.ensures.value in
+    let entries : c.entries.result ≡ v.start.network.table.entries =
+    c.entries.ensures.value ∙ sym (ap (λ (x : Network). x.table.entries) network) in
+    lane-on c.lane.inside _ c.args.token c.client_of-client.result c.lane.invariant c.step-number.ensures.seat.1 b n
+    (c.entries.result + 2 * b + c.output_of.result)
     (omega (arith, c.output_of.ensures))
     (c.step-number.ensures.went.0 ∙ ap (λ (e : End). after_step c.args.token c.client_of-client.result e n v) c.in-Balancer.is)
     (c.move_to.ensures _ c.client_of-client.result c.client_of-client.ensures.1.found)
@@ -34,13 +39,18 @@ invariant_of-lane-in-Exit c =
     let v = c.lane.inside.seat.me.0 in
     let i : ℕ = c.in-Exit.exit in
     let n : ℕ = c.step-number.result in
-    let begun : v.start ≡ c.self.inside.counters.start = ap (λ (l : LaneValue). l.home.start) c.lane.view_is ∙ ap (λ (h : FloorValue). h.start) c.requires.own ∙ sym (ap (λ (h : FloorValue). h.start) c.self.view_is) in
-    let network : v.start.network ≡ c.network-network.result.now = ap (λ (l : LaneValue). l.home.start.network) c.lane.view_is ∙ ap (λ (h : FloorValue). h.start.network) c.requires.own ∙ sym c.network-network.ensures.value in
+    let begun : v.start ≡ c.self.inside.counters.start =
+    ap (λ (l : LaneValue). l.home.start) c.lane.view_is ∙ ap (λ (h : FloorValue). h.start) c.requires.own
+    ∙ sym (ap (λ (h : FloorValue). h.start) c.self.view_is) in
+    let network : v.start.network ≡ c.network-network.result.now =
+    ap (λ (l : LaneValue). l.home.start.network) c.lane.view_is ∙ ap (λ (h : FloorValue). h.start.network) c.requires.own
+    ∙ sym c.network-network.ensures.value in
     let width : c.width.result ≡ v.start.network.table.width = c.width.ensures.value ∙ sym (ap (λ (x : Network). x.table.width) network) in
     let base_is : c.self.inside.base ≡ base v.start = c.self.invariant.base ∙ sym (ap (λ (s : Start). base s) begun) in
     let name : c.name_of.result - c.self.inside.base ≡ name_of v.start.network.table.width i n - base v.start =
     (λ x. c.name_of.ensures x - base_is x) ∙ ap (λ (w : ℕ). name_of w i n - base v.start) width in
-    lane-out c.lane.inside _ c.args.token c.client_of-client.result c.lane.invariant c.step-number.ensures.seat.1 i n (c.name_of.result - c.self.inside.base) name
+    lane-out c.lane.inside _ c.args.token c.client_of-client.result c.lane.invariant c.step-number.ensures.seat.1 i n
+    (c.name_of.result - c.self.inside.base) name
     (c.step-number.ensures.went.0 ∙ ap (λ (e : End). after_step c.args.token c.client_of-client.result e n v) c.in-Exit.is)
     c.release.ensures.released c.push_reserved.ensures.items c.push_reserved.ensures.capacity refl refl
 
@@ -53,25 +63,33 @@ returns-in-Exit c =
     let wire : ℕ = c.wire_of-wire.result in
     let i : ℕ = c.in-Exit.exit in
     let n : ℕ = c.step-number.result in
-    let begun : v.start ≡ c.self.inside.counters.start = ap (λ (l : LaneValue). l.home.start) c.lane.view_is ∙ ap (λ (h : FloorValue). h.start) c.requires.own ∙ sym (ap (λ (h : FloorValue). h.start) c.self.view_is) in
+    let begun : v.start ≡ c.self.inside.counters.start =
+    ap (λ (l : LaneValue). l.home.start) c.lane.view_is ∙ ap (λ (h : FloorValue). h.start) c.requires.own
+    ∙ sym (ap (λ (h : FloorValue). h.start) c.self.view_is) in
     let started : c.self.inside.counters.start ≡ v.start = sym begun in
-    let network : v.start.network ≡ c.network-network.result.now = ap (λ (l : LaneValue). l.home.start.network) c.lane.view_is ∙ ap (λ (h : FloorValue). h.start.network) c.requires.own ∙ sym c.network-network.ensures.value in
-    let at : end_of v.start.network.table wire ≡ c.end-end.result = ap (λ (x : Network). end_of x.table wire) network ∙ c.end-end.ensures.at in
+    let network : v.start.network ≡ c.network-network.result.now =
+    ap (λ (l : LaneValue). l.home.start.network) c.lane.view_is ∙ ap (λ (h : FloorValue). h.start.network) c.requires.own
+    ∙ sym c.network-network.ensures.value in
+    let at : end_of v.start.network.table wire ≡ c.end-end.result =
+    ap (λ (x : Network). end_of x.table wire) network ∙ c.end-end.ensures.at in
     let out : end_of v.start.network.table wire ≡ Exit i = at ∙ c.in-Exit.is in
     let width : c.width.result ≡ v.start.network.table.width = c.width.ensures.value ∙ sym (ap (λ (x : Network). x.table.width) network) in
     let base_is : c.self.inside.base ≡ base v.start = c.self.invariant.base ∙ sym (ap (λ (s : Start). base s) begun) in
     let name : c.name_of.result - c.self.inside.base ≡ name_of v.start.network.table.width i n - base v.start =
     (λ x. c.name_of.ensures x - base_is x) ∙ ap (λ (k : ℕ). name_of k i n - base v.start) width in
-    let went : w ≡ after_step token client (Exit i) n v = c.step-number.ensures.went.0 ∙ ap (λ (e : End). after_step token client e n v) c.in-Exit.is in
+    let went : w ≡ after_step token client (Exit i) n v =
+    c.step-number.ensures.went.0 ∙ ap (λ (e : End). after_step token client e n v) c.in-Exit.is in
     let same = there-alike c.lane.inside.yard.lists token client _ _ wire c.client_of-client.ensures.1 c.wire_of-wire.ensures.1 in
     let stands = subst (λ (u : ℕ). standing c.lane.inside.yard.lists token ≡ Some (u, client)) same.1 c.client_of-client.ensures.1.found in
     rw (← c.lane.view_is) (
       client,
       wire,
       n,
-      steps-on (lane_of c.lane.inside) _ token client wire n _ (Exit i) out stands (λ x. record { table = c.step-number.ensures.seat.0 x; start = (went x).start }) went c.release.ensures.released refl
+      steps-on (lane_of c.lane.inside) _ token client wire n _ (Exit i) out stands
+          (λ x. record { table = c.step-number.ensures.seat.0 x; start = (went x).start }) went c.release.ensures.released refl
           (ap (λ (k : ℕ). Out i n k) name)
-          (subst (λ (e : End). IsLetBy v.start v w client e n) c.in-Exit.is (subst (λ (s : Start). IsLetBy s v w client c.end-end.result n) started c.step-number.ensures.went.1)),
+          (subst (λ (e : End). IsLetBy v.start v w client e n) c.in-Exit.is
+          (subst (λ (s : Start). IsLetBy s v w client c.end-end.result n) started c.step-number.ensures.went.1)),
     )
 
 pub returns-in-Balancer : goal.returns-in-Balancer
@@ -83,51 +101,69 @@ returns-in-Balancer c =
     let wire : ℕ = c.wire_of-wire.result in
     let b : ℕ = c.in-Balancer.balancer in
     let n : ℕ = c.step-number.result in
-    let begun : v.start ≡ c.self.inside.counters.start = ap (λ (l : LaneValue). l.home.start) c.lane.view_is ∙ ap (λ (h : FloorValue). h.start) c.requires.own ∙ sym (ap (λ (h : FloorValue). h.start) c.self.view_is) in
-    let network : v.start.network ≡ c.network-network.result.now = ap (λ (l : LaneValue). l.home.start.network) c.lane.view_is ∙ ap (λ (h : FloorValue). h.start.network) c.requires.own ∙ sym c.network-network.ensures.value in
-    let on : end_of v.start.network.table wire ≡ Balancer b = ap (λ (x : Network). end_of x.table wire) network ∙ c.end-end.ensures.at ∙ c.in-Balancer.is in
-    let entries : c.entries.result ≡ v.start.network.table.entries = c.entries.ensures.value ∙ sym (ap (λ (x : Network). x.table.entries) network) in
-    let to : c.entries.result + 2 * b + c.output_of.result ≡ output_wire v.start.network.table b (n % 2) = omega (arith, c.output_of.ensures) in
-    let went : w ≡ after_step token client (Balancer b) n v = c.step-number.ensures.went.0 ∙ ap (λ (e : End). after_step token client e n v) c.in-Balancer.is in
+    let begun : v.start ≡ c.self.inside.counters.start =
+    ap (λ (l : LaneValue). l.home.start) c.lane.view_is ∙ ap (λ (h : FloorValue). h.start) c.requires.own
+    ∙ sym (ap (λ (h : FloorValue). h.start) c.self.view_is) in
+    let network : v.start.network ≡ c.network-network.result.now =
+    ap (λ (l : LaneValue). l.home.start.network) c.lane.view_is ∙ ap (λ (h : FloorValue). h.start.network) c.requires.own
+    ∙ sym c.network-network.ensures.value in
+    let on : end_of v.start.network.table wire ≡ Balancer b =
+    ap (λ (x : Network). end_of x.table wire) network ∙ c.end-end.ensures.at ∙ c.in-Balancer.is in
+    let entries : c.entries.result ≡ v.start.network.table.entries =
+    c.entries.ensures.value ∙ sym (ap (λ (x : Network). x.table.entries) network) in
+    let to : c.entries.result + 2 * b + c.output_of.result ≡ output_wire v.start.network.table b (n % 2) =
+    omega (arith, c.output_of.ensures) in
+    let went : w ≡ after_step token client (Balancer b) n v =
+    c.step-number.ensures.went.0 ∙ ap (λ (e : End). after_step token client e n v) c.in-Balancer.is in
     let same = there-alike c.lane.inside.yard.lists token client _ _ wire c.client_of-client.ensures.1 c.wire_of-wire.ensures.1 in
     let stands = subst (λ (u : ℕ). standing c.lane.inside.yard.lists token ≡ Some (u, client)) same.1 c.client_of-client.ensures.1.found in
     rw (← c.lane.view_is) (
       client,
       wire,
       n,
-      steps-on (lane_of c.lane.inside) _ token client wire n _ (Balancer b) on stands (λ x. record { table = c.step-number.ensures.seat.0 x; start = (went x).start }) went
-          (subst (λ (u : ℕ). Moves c.lane.inside.yard c.move_to.new.self token client u) to (c.move_to.ensures _ client c.client_of-client.ensures.1.found)) refl
+      steps-on (lane_of c.lane.inside) _ token client wire n _ (Balancer b) on stands
+          (λ x. record { table = c.step-number.ensures.seat.0 x; start = (went x).start }) went
+          (subst (λ (u : ℕ). Moves c.lane.inside.yard c.move_to.new.self token client u) to
+          (c.move_to.ensures _ client c.client_of-client.ensures.1.found)) refl
           (ap (λ (u : ℕ). On b n u) to)
-          (subst (λ (e : End). IsLetBy v.start v w client e n) c.in-Balancer.is (subst (λ (s : Start). IsLetBy s v w client c.end-end.result n) (sym begun) c.step-number.ensures.went.1)),
+          (subst (λ (e : End). IsLetBy v.start v w client e n) c.in-Balancer.is
+          (subst (λ (s : Start). IsLetBy s v w client c.end-end.result n) (sym begun) c.step-number.ensures.went.1)),
     )
 
 pub step-number-requires-clause-own : goal.step-number-requires-clause-own
 step-number-requires-clause-own c =
-    let home : (lane_of c.lane.inside).home ≡ c.self.inside.counters = ap (λ (l : LaneValue). l.home) c.lane.view_is ∙ c.requires.own ∙ sym c.self.view_is in
+    let home : (lane_of c.lane.inside).home ≡ c.self.inside.counters =
+    ap (λ (l : LaneValue). l.home) c.lane.view_is ∙ c.requires.own ∙ sym c.self.view_is in
     (ap (λ (h : FloorValue). h.table) home, ap (λ (h : FloorValue). h.start) home)
 
 pub step-number-requires-clause-wires : goal.step-number-requires-clause-wires
 step-number-requires-clause-wires c =
-    let home : (lane_of c.lane.inside).home ≡ c.self.inside.counters = ap (λ (l : LaneValue). l.home) c.lane.view_is ∙ c.requires.own ∙ sym c.self.view_is in
+    let home : (lane_of c.lane.inside).home ≡ c.self.inside.counters =
+    ap (λ (l : LaneValue). l.home) c.lane.view_is ∙ c.requires.own ∙ sym c.self.view_is in
     sym (ap length c.lane.invariant.tokens) ∙ c.lane.invariant.wires ∙ ap (λ (h : FloorValue). length h.start.network.table.ends) home
 
 pub step-number-requires-clause-ends : goal.step-number-requires-clause-ends
 step-number-requires-clause-ends c =
-    ap (λ (n : Network). end_of n.table c.wire_of-wire.result) (ap (λ (h : FloorValue). h.start.network) c.self.view_is ∙ sym c.network-network.ensures.value) ∙ c.end-end.ensures.at
+    ap (λ (n : Network). end_of n.table c.wire_of-wire.result)
+    (ap (λ (h : FloorValue). h.start.network) c.self.view_is ∙ sym c.network-network.ensures.value) ∙ c.end-end.ensures.at
 
 pub step-number-requires-clause-stands : goal.step-number-requires-clause-stands
 step-number-requires-clause-stands c =
-    subst (λ (n : Network). Stands n.table c.end-end.result) (c.network-network.ensures.value ∙ ap (λ (h : FloorValue). h.start.network) (sym c.self.view_is)) c.end-end.ensures.there
+    subst (λ (n : Network). Stands n.table c.end-end.result)
+    (c.network-network.ensures.value ∙ ap (λ (h : FloorValue). h.start.network) (sym c.self.view_is)) c.end-end.ensures.there
 
 pub name_of-requires : goal.name_of-requires
 name_of-requires c =
     let start : Start = c.self.inside.counters.start in
     let i : ℕ = c.in-Exit.exit in
-    let network : c.network-network.result.now ≡ start.network = c.network-network.ensures.value ∙ ap (λ (h : FloorValue). h.start.network) (sym c.self.view_is) in
+    let network : c.network-network.result.now ≡ start.network =
+    c.network-network.ensures.value ∙ ap (λ (h : FloorValue). h.start.network) (sym c.self.view_is) in
     let width : c.width.result ≡ start.network.table.width = c.width.ensures.value ∙ ap (λ (x : Network). x.table.width) network in
     let small : FitsLanes start =
-    subst FitsLanes (ap (λ (l : LaneValue). l.home.start) c.lane.view_is ∙ ap (λ (h : FloorValue). h.start) c.requires.own ∙ sym (ap (λ (h : FloorValue). h.start) c.self.view_is)) c.lane.invariant.small in
-    let stands : i < start.network.table.width = subst (λ (x : Network × End). Stands x.0.table x.1) (λ k. (network k, c.in-Exit.is k)) c.end-end.ensures.there in
+    subst FitsLanes (ap (λ (l : LaneValue). l.home.start) c.lane.view_is ∙ ap (λ (h : FloorValue). h.start) c.requires.own
+    ∙ sym (ap (λ (h : FloorValue). h.start) c.self.view_is)) c.lane.invariant.small in
+    let stands : i < start.network.table.width =
+    subst (λ (x : Network × End). Stands x.0.table x.1) (λ k. (network k, c.in-Exit.is k)) c.end-end.ensures.there in
     let few = c.step-number.ensures.went.1.few in
     omega (
       arith,
@@ -138,7 +174,8 @@ name_of-requires c =
 pub move_to-requires : goal.move_to-requires
 move_to-requires c =
     let network : c.lane.inside.seat.me.0.start.network ≡ c.network-network.result.now =
-    ap (λ (l : LaneValue). l.home.start.network) c.lane.view_is ∙ ap (λ (h : FloorValue). h.start.network) c.requires.own ∙ sym c.network-network.ensures.value in
+    ap (λ (l : LaneValue). l.home.start.network) c.lane.view_is ∙ ap (λ (h : FloorValue). h.start.network) c.requires.own
+    ∙ sym c.network-network.ensures.value in
     let stands : Stands c.network-network.result.now.table (Balancer c.in-Balancer.balancer) =
     subst (λ (e : End). Stands c.network-network.result.now.table e) c.in-Balancer.is c.end-end.ensures.there in
     record {

@@ -13,7 +13,8 @@ deal-requires-clause-wires c =
     let inside : c.args.wire < length lists = some-inside lists c.args.wire (rw (← c.lane.view_is) at c.requires.some) in
     let ends : length lists ≡ length c.network-network.result.now.table.ends =
     c.lane.invariant.wires ∙ ap (λ (l : LaneValue). length l.home.start.network.table.ends) c.lane.view_is
-    ∙ ap (λ (h : FloorValue). length h.start.network.table.ends) c.requires.own ∙ ap (λ (x : Network). length x.table.ends) (sym c.network-network.ensures.value) in
+    ∙ ap (λ (h : FloorValue). length h.start.network.table.ends) c.requires.own
+    ∙ ap (λ (x : Network). length x.table.ends) (sym c.network-network.ensures.value) in
     let stands : Stands c.network-network.result.now.table (Balancer c.in-Balancer.balancer) =
     subst (λ (e : End). Stands c.network-network.result.now.table e) c.in-Balancer.is c.end-end.ensures.there in
     let out : c.entries.result + 2 * c.in-Balancer.balancer + 1 < length lists =
@@ -27,9 +28,11 @@ deal-requires-clause-distinct c =
     let inside : c.args.wire < length lists = some-inside lists c.args.wire (rw (← c.lane.view_is) at c.requires.some) in
     let ends : length lists ≡ length network.table.ends =
     c.lane.invariant.wires ∙ ap (λ (l : LaneValue). length l.home.start.network.table.ends) c.lane.view_is
-    ∙ ap (λ (h : FloorValue). length h.start.network.table.ends) c.requires.own ∙ ap (λ (x : Network). length x.table.ends) (sym c.network-network.ensures.value) in
+    ∙ ap (λ (h : FloorValue). length h.start.network.table.ends) c.requires.own
+    ∙ ap (λ (x : Network). length x.table.ends) (sym c.network-network.ensures.value) in
     let forward : c.args.wire < network.table.entries + 2 * c.in-Balancer.balancer =
-    subst (LeadsOn network.table c.args.wire) (c.end-end.ensures.at ∙ c.in-Balancer.is) (c.end-end.ensures.network.formed.forward c.args.wire (omega (arith, inside, ends))) in
+    subst (LeadsOn network.table c.args.wire) (c.end-end.ensures.at ∙ c.in-Balancer.is)
+    (c.end-end.ensures.network.formed.forward c.args.wire (omega (arith, inside, ends))) in
     let before : c.args.wire < c.entries.result + 2 * c.in-Balancer.balancer = omega (arith, forward, c.entries.ensures.value) in
     (λ e. omega (arith, e, before), λ e. omega (arith, e, before), λ e. omega (arith, e))
 
@@ -46,15 +49,21 @@ pub leave_all-requires-clause-high : goal.leave_all-requires-clause-high
 leave_all-requires-clause-high c =
     let start : Start = c.self.inside.counters.start in
     let i : ℕ = c.in-Exit.exit in
-    let network : c.network-network.result.now ≡ start.network = c.network-network.ensures.value ∙ ap (λ (h : FloorValue). h.start.network) (sym c.self.view_is) in
-    let width : c.width-width.result ≡ start.network.table.width = c.width-width.ensures.value ∙ ap (λ (x : Network). x.table.width) network in
+    let network : c.network-network.result.now ≡ start.network =
+    c.network-network.ensures.value ∙ ap (λ (h : FloorValue). h.start.network) (sym c.self.view_is) in
+    let width : c.width-width.result ≡ start.network.table.width =
+    c.width-width.ensures.value ∙ ap (λ (x : Network). x.table.width) network in
     let small : FitsLanes start =
-    subst FitsLanes (ap (λ (l : LaneValue). l.home.start) c.lane.view_is ∙ ap (λ (h : FloorValue). h.start) c.requires.own ∙ sym (ap (λ (h : FloorValue). h.start) c.self.view_is)) c.lane.invariant.small in
-    let stands : i < start.network.table.width = subst (λ (x : Network × End). Stands x.0.table x.1) (λ k. (network k, c.in-Exit.is k)) c.end-end.ensures.there in
-    let many : length (on c.lane.inside.yard.lists c.args.wire) ≡ length (on c.lane.inside.seat.me.0.tokens c.args.wire) = ap (λ (ls : Lists). length (on ls c.args.wire)) c.lane.invariant.tokens in
+    subst FitsLanes (ap (λ (l : LaneValue). l.home.start) c.lane.view_is ∙ ap (λ (h : FloorValue). h.start) c.requires.own
+    ∙ sym (ap (λ (h : FloorValue). h.start) c.self.view_is)) c.lane.invariant.small in
+    let stands : i < start.network.table.width =
+    subst (λ (x : Network × End). Stands x.0.table x.1) (λ k. (network k, c.in-Exit.is k)) c.end-end.ensures.there in
+    let many : length (on c.lane.inside.yard.lists c.args.wire) ≡ length (on c.lane.inside.seat.me.0.tokens c.args.wire) =
+    ap (λ (ls : Lists). length (on ls c.args.wire)) c.lane.invariant.tokens in
     omega (
       arith,
-      name-small start i (c.sweep-first.result + length (on c.lane.inside.seat.me.0.tokens c.args.wire)) c.self.invariant.began small stands c.sweep-first.ensures.went.1.few,
+      name-small start i (c.sweep-first.result + length (on c.lane.inside.seat.me.0.tokens c.args.wire)) c.self.invariant.began small stands
+          c.sweep-first.ensures.went.1.few,
       ap (λ (k : ℕ). name_of start.network.table.width i (c.sweep-first.result + k)) many,
       ap (λ (k : ℕ). name_of k i (c.sweep-first.result + length (on c.lane.inside.yard.lists c.args.wire))) width,
     )
@@ -65,7 +74,8 @@ leave_all-requires-clause-low c =
     let i : ℕ = c.in-Exit.exit in
     let n : ℕ = c.sweep-first.result in
     let width : c.width-width.result ≡ start.network.table.width =
-    c.width-width.ensures.value ∙ ap (λ (x : Network). x.table.width) (c.network-network.ensures.value ∙ ap (λ (h : FloorValue). h.start.network) (sym c.self.view_is)) in
+    c.width-width.ensures.value ∙ ap (λ (x : Network). x.table.width)
+    (c.network-network.ensures.value ∙ ap (λ (h : FloorValue). h.start.network) (sym c.self.view_is)) in
     let late : base start ≤ name_of start.network.table.width i n = c.sweep-first.ensures.went.1.late i c.in-Exit.is in
     omega (arith, late, c.self.invariant.base, ap (λ (w : ℕ). name_of w i n) width)
 
@@ -79,74 +89,110 @@ pub invariant_of-lane : goal.invariant_of-lane
 invariant_of-lane c =
     let v : View = c.lane.inside.seat.me.0 in
     let n : ℕ = c.sweep-first.result in
-    let network : v.start.network ≡ c.network-network.result.now = ap (λ (l : LaneValue). l.home.start.network) c.lane.view_is ∙ ap (λ (h : FloorValue). h.start.network) c.requires.own ∙ sym c.network-network.ensures.value in
+    let network : v.start.network ≡ c.network-network.result.now =
+    ap (λ (l : LaneValue). l.home.start.network) c.lane.view_is ∙ ap (λ (h : FloorValue). h.start.network) c.requires.own
+    ∙ sym c.network-network.ensures.value in
     let b : ℕ = c.in-Balancer.balancer in
     let out : ℕ = c.entries.result + 2 * b in
-    let entries : c.entries.result ≡ v.start.network.table.entries = c.entries.ensures.value ∙ sym (ap (λ (x : Network). x.table.entries) network) in
-    let went : c.sweep-first.new.seat.me.0 ≡ after_sweep c.args.wire (Balancer b) n v = c.sweep-first.ensures.went.0 ∙ ap (λ (e : End). after_sweep c.args.wire e n v) c.in-Balancer.is in
-    lane-dealt c.lane.inside _ c.args.wire n c.lane.invariant c.sweep-first.ensures.seat.1 (out_of out (out + 1)) b c.output_of.result out (out + 1) went
-    c.deal.ensures.moves c.deal.ensures.dealt (λ q. outs-are v.start.network.table.entries b out q (omega (arith, entries))) (omega (arith, c.output_of.ensures)) refl refl refl
+    let entries : c.entries.result ≡ v.start.network.table.entries =
+    c.entries.ensures.value ∙ sym (ap (λ (x : Network). x.table.entries) network) in
+    let went : c.sweep-first.new.seat.me.0 ≡ after_sweep c.args.wire (Balancer b) n v =
+    c.sweep-first.ensures.went.0 ∙ ap (λ (e : End). after_sweep c.args.wire e n v) c.in-Balancer.is in
+    lane-dealt c.lane.inside _ c.args.wire n c.lane.invariant c.sweep-first.ensures.seat.1 (out_of out (out + 1)) b c.output_of.result out
+    (out + 1) went
+    c.deal.ensures.moves c.deal.ensures.dealt (λ q. outs-are v.start.network.table.entries b out q (omega (arith, entries)))
+    (omega (arith, c.output_of.ensures)) refl refl refl
 
 pub invariant_of-lane-in-Exit : goal.invariant_of-lane-in-Exit
 invariant_of-lane-in-Exit c =
     let v : View = c.lane.inside.seat.me.0 in
     let n : ℕ = c.sweep-first.result in
-    let begun : v.start ≡ c.self.inside.counters.start = ap (λ (l : LaneValue). l.home.start) c.lane.view_is ∙ ap (λ (h : FloorValue). h.start) c.requires.own ∙ sym (ap (λ (h : FloorValue). h.start) c.self.view_is) in
-    let network : v.start.network ≡ c.network-network.result.now = ap (λ (l : LaneValue). l.home.start.network) c.lane.view_is ∙ ap (λ (h : FloorValue). h.start.network) c.requires.own ∙ sym c.network-network.ensures.value in
+    let begun : v.start ≡ c.self.inside.counters.start =
+    ap (λ (l : LaneValue). l.home.start) c.lane.view_is ∙ ap (λ (h : FloorValue). h.start) c.requires.own
+    ∙ sym (ap (λ (h : FloorValue). h.start) c.self.view_is) in
+    let network : v.start.network ≡ c.network-network.result.now =
+    ap (λ (l : LaneValue). l.home.start.network) c.lane.view_is ∙ ap (λ (h : FloorValue). h.start.network) c.requires.own
+    ∙ sym c.network-network.ensures.value in
     let i : ℕ = c.in-Exit.exit in
-    let width : c.width-width.result ≡ v.start.network.table.width = c.width-width.ensures.value ∙ sym (ap (λ (x : Network). x.table.width) network) in
+    let width : c.width-width.result ≡ v.start.network.table.width =
+    c.width-width.ensures.value ∙ sym (ap (λ (x : Network). x.table.width) network) in
     let base_is : c.self.inside.base ≡ base v.start = c.self.invariant.base ∙ sym (ap (λ (s : Start). base s) begun) in
-    let went : c.sweep-first.new.seat.me.0 ≡ after_sweep c.args.wire (Exit i) n v = c.sweep-first.ensures.went.0 ∙ ap (λ (e : End). after_sweep c.args.wire e n v) c.in-Exit.is in
-    lane-left c.lane.inside _ c.args.wire n c.lane.invariant c.sweep-first.ensures.seat.1 i c.width-width.result c.self.inside.base width base_is went
+    let went : c.sweep-first.new.seat.me.0 ≡ after_sweep c.args.wire (Exit i) n v =
+    c.sweep-first.ensures.went.0 ∙ ap (λ (e : End). after_sweep c.args.wire e n v) c.in-Exit.is in
+    lane-left c.lane.inside _ c.args.wire n c.lane.invariant c.sweep-first.ensures.seat.1 i c.width-width.result c.self.inside.base width
+    base_is went
     c.leave_all.ensures.freed c.leave_all.ensures.granted c.leave_all.ensures.capacity refl refl
 
 pub returns-in-Balancer : goal.returns-in-Balancer
 returns-in-Balancer c =
     let v : View = c.lane.inside.seat.me.0 in
     let n : ℕ = c.sweep-first.result in
-    let begun : v.start ≡ c.self.inside.counters.start = ap (λ (l : LaneValue). l.home.start) c.lane.view_is ∙ ap (λ (h : FloorValue). h.start) c.requires.own ∙ sym (ap (λ (h : FloorValue). h.start) c.self.view_is) in
-    let network : v.start.network ≡ c.network-network.result.now = ap (λ (l : LaneValue). l.home.start.network) c.lane.view_is ∙ ap (λ (h : FloorValue). h.start.network) c.requires.own ∙ sym c.network-network.ensures.value in
+    let begun : v.start ≡ c.self.inside.counters.start =
+    ap (λ (l : LaneValue). l.home.start) c.lane.view_is ∙ ap (λ (h : FloorValue). h.start) c.requires.own
+    ∙ sym (ap (λ (h : FloorValue). h.start) c.self.view_is) in
+    let network : v.start.network ≡ c.network-network.result.now =
+    ap (λ (l : LaneValue). l.home.start.network) c.lane.view_is ∙ ap (λ (h : FloorValue). h.start.network) c.requires.own
+    ∙ sym c.network-network.ensures.value in
     let b : ℕ = c.in-Balancer.balancer in
     let out : ℕ = c.entries.result + 2 * b in
-    let entries : c.entries.result ≡ v.start.network.table.entries = c.entries.ensures.value ∙ sym (ap (λ (x : Network). x.table.entries) network) in
-    let went : c.sweep-first.new.seat.me.0 ≡ after_sweep c.args.wire (Balancer b) n v = c.sweep-first.ensures.went.0 ∙ ap (λ (e : End). after_sweep c.args.wire e n v) c.in-Balancer.is in
-    let at : end_of v.start.network.table c.args.wire ≡ Balancer b = ap (λ (x : Network). end_of x.table c.args.wire) network ∙ c.end-end.ensures.at ∙ c.in-Balancer.is in
-    let same : c.sweep-first.new.seat.me.0.start ≡ v.start = ap (λ (w : View). w.start) went ∙ (kin-by (Balancer b) n (on v.tokens c.args.wire) v).start in
+    let entries : c.entries.result ≡ v.start.network.table.entries =
+    c.entries.ensures.value ∙ sym (ap (λ (x : Network). x.table.entries) network) in
+    let went : c.sweep-first.new.seat.me.0 ≡ after_sweep c.args.wire (Balancer b) n v =
+    c.sweep-first.ensures.went.0 ∙ ap (λ (e : End). after_sweep c.args.wire e n v) c.in-Balancer.is in
+    let at : end_of v.start.network.table c.args.wire ≡ Balancer b =
+    ap (λ (x : Network). end_of x.table c.args.wire) network ∙ c.end-end.ensures.at ∙ c.in-Balancer.is in
+    let same : c.sweep-first.new.seat.me.0.start ≡ v.start =
+    ap (λ (w : View). w.start) went ∙ (kin-by (Balancer b) n (on v.tokens c.args.wire) v).start in
     let first : out ≡ output_wire v.start.network.table b 0 = omega (arith, entries) in
     let second : out + 1 ≡ output_wire v.start.network.table b 1 = omega (arith, entries) in
-    let dealt : IsDealt c.args.wire (n % 2) (output_wire v.start.network.table b 0) (output_wire v.start.network.table b 1) c.lane.inside.yard c.deal.new.self =
+    let dealt : IsDealt c.args.wire (n % 2) (output_wire v.start.network.table b 0) (output_wire v.start.network.table b 1)
+    c.lane.inside.yard c.deal.new.self =
     rw (← first, ← second, ← c.output_of.ensures) c.deal.ensures.dealt in
     let many : c.from-tokens.result ≡ length (on c.lane.inside.yard.lists c.args.wire) = c.from-tokens.ensures ∙ c.count.ensures in
     rw (← c.lane.view_is) (
       n,
-      sweeps-on (lane_of c.lane.inside) _ c.args.wire n _ (Balancer b) at (λ x. record { table = c.sweep-first.ensures.seat.0 x; start = same x }) went dealt refl
+      sweeps-on (lane_of c.lane.inside) _ c.args.wire n _ (Balancer b) at
+          (λ x. record { table = c.sweep-first.ensures.seat.0 x; start = same x }) went dealt refl
           (ap (λ (k : ℕ). On b n k) many)
           (subst (λ (e : End). AreLetBy v.start v c.sweep-first.new.seat.me.0 c.args.wire e n) c.in-Balancer.is
-          (subst (λ (s : Start). AreLetBy s v c.sweep-first.new.seat.me.0 c.args.wire c.end-end.result n) (sym begun) c.sweep-first.ensures.went.1)),
+          (subst (λ (s : Start). AreLetBy s v c.sweep-first.new.seat.me.0 c.args.wire c.end-end.result n) (sym begun)
+          c.sweep-first.ensures.went.1)),
     )
 
 pub returns-in-Exit : goal.returns-in-Exit
 returns-in-Exit c =
     let v : View = c.lane.inside.seat.me.0 in
     let n : ℕ = c.sweep-first.result in
-    let begun : v.start ≡ c.self.inside.counters.start = ap (λ (l : LaneValue). l.home.start) c.lane.view_is ∙ ap (λ (h : FloorValue). h.start) c.requires.own ∙ sym (ap (λ (h : FloorValue). h.start) c.self.view_is) in
-    let network : v.start.network ≡ c.network-network.result.now = ap (λ (l : LaneValue). l.home.start.network) c.lane.view_is ∙ ap (λ (h : FloorValue). h.start.network) c.requires.own ∙ sym c.network-network.ensures.value in
+    let begun : v.start ≡ c.self.inside.counters.start =
+    ap (λ (l : LaneValue). l.home.start) c.lane.view_is ∙ ap (λ (h : FloorValue). h.start) c.requires.own
+    ∙ sym (ap (λ (h : FloorValue). h.start) c.self.view_is) in
+    let network : v.start.network ≡ c.network-network.result.now =
+    ap (λ (l : LaneValue). l.home.start.network) c.lane.view_is ∙ ap (λ (h : FloorValue). h.start.network) c.requires.own
+    ∙ sym c.network-network.ensures.value in
     let i : ℕ = c.in-Exit.exit in
-    let width : c.width-width.result ≡ v.start.network.table.width = c.width-width.ensures.value ∙ sym (ap (λ (x : Network). x.table.width) network) in
+    let width : c.width-width.result ≡ v.start.network.table.width =
+    c.width-width.ensures.value ∙ sym (ap (λ (x : Network). x.table.width) network) in
     let base_is : c.self.inside.base ≡ base v.start = c.self.invariant.base ∙ sym (ap (λ (s : Start). base s) begun) in
-    let went : c.sweep-first.new.seat.me.0 ≡ after_sweep c.args.wire (Exit i) n v = c.sweep-first.ensures.went.0 ∙ ap (λ (e : End). after_sweep c.args.wire e n v) c.in-Exit.is in
-    let at : end_of v.start.network.table c.args.wire ≡ Exit i = ap (λ (x : Network). end_of x.table c.args.wire) network ∙ c.end-end.ensures.at ∙ c.in-Exit.is in
-    let same : c.sweep-first.new.seat.me.0.start ≡ v.start = ap (λ (w : View). w.start) went ∙ (kin-by (Exit i) n (on v.tokens c.args.wire) v).start in
+    let went : c.sweep-first.new.seat.me.0 ≡ after_sweep c.args.wire (Exit i) n v =
+    c.sweep-first.ensures.went.0 ∙ ap (λ (e : End). after_sweep c.args.wire e n v) c.in-Exit.is in
+    let at : end_of v.start.network.table c.args.wire ≡ Exit i =
+    ap (λ (x : Network). end_of x.table c.args.wire) network ∙ c.end-end.ensures.at ∙ c.in-Exit.is in
+    let same : c.sweep-first.new.seat.me.0.start ≡ v.start =
+    ap (λ (w : View). w.start) went ∙ (kin-by (Exit i) n (on v.tokens c.args.wire) v).start in
     let many : c.from-tokens.result ≡ length (on c.lane.inside.yard.lists c.args.wire) = c.from-tokens.ensures ∙ c.count.ensures in
     let lists = c.lane.inside.yard.lists in
     let inside : c.args.wire < length lists = some-inside lists c.args.wire (rw (← c.lane.view_is) at c.requires.some) in
-    let once : (k : ℕ) → times_in lists k ≤ 1 = λ k. subst (λ (l : LaneValue). times_in l.yard.lists k ≤ 1) (sym c.lane.view_is) (c.lane_laws.ensures.once k) in
+    let once : (k : ℕ) → times_in lists k ≤ 1 =
+    λ k. subst (λ (l : LaneValue). times_in l.yard.lists k ≤ 1) (sym c.lane.view_is) (c.lane_laws.ensures.once k) in
     rw (← c.lane.view_is) (
       n,
-      sweeps-on (lane_of c.lane.inside) _ c.args.wire n _ (Exit i) at (λ x. record { table = c.sweep-first.ensures.seat.0 x; start = same x }) went (cleared c.args.wire c.lane.inside.yard _ once inside c.leave_all.ensures.freed) refl
+      sweeps-on (lane_of c.lane.inside) _ c.args.wire n _ (Exit i) at
+          (λ x. record { table = c.sweep-first.ensures.seat.0 x; start = same x }) went
+          (cleared c.args.wire c.lane.inside.yard _ once inside c.leave_all.ensures.freed) refl
           (ap (λ (k : ℕ). Out i n k) many)
           (subst (λ (e : End). AreLetBy v.start v c.sweep-first.new.seat.me.0 c.args.wire e n) c.in-Exit.is
-          (subst (λ (s : Start). AreLetBy s v c.sweep-first.new.seat.me.0 c.args.wire c.end-end.result n) (sym begun) c.sweep-first.ensures.went.1)),
+          (subst (λ (s : Start). AreLetBy s v c.sweep-first.new.seat.me.0 c.args.wire c.end-end.result n) (sym begun)
+          c.sweep-first.ensures.went.1)),
     )
 
 pub end-end-requires : goal.end-end-requires
@@ -154,7 +200,8 @@ end-end-requires c =
     let lists = c.lane.inside.yard.lists in
     let inside : c.args.wire < length lists = some-inside lists c.args.wire (rw (← c.lane.view_is) at c.requires.some) in
     let ends : length lists ≡ length c.args.self.now.start.network.table.ends =
-    c.lane.invariant.wires ∙ ap (λ (l : LaneValue). length l.home.start.network.table.ends) c.lane.view_is ∙ ap (λ (h : FloorValue). length h.start.network.table.ends) c.requires.own in
+    c.lane.invariant.wires ∙ ap (λ (l : LaneValue). length l.home.start.network.table.ends) c.lane.view_is
+    ∙ ap (λ (h : FloorValue). length h.start.network.table.ends) c.requires.own in
     omega (
       arith,
       inside,
@@ -166,7 +213,8 @@ end-end-requires c =
 
 pub sweep-first-requires-clause-own : goal.sweep-first-requires-clause-own
 sweep-first-requires-clause-own c =
-    let home : (lane_of c.lane.inside).home ≡ c.self.inside.counters = ap (λ (l : LaneValue). l.home) c.lane.view_is ∙ c.requires.own ∙ sym c.self.view_is in
+    let home : (lane_of c.lane.inside).home ≡ c.self.inside.counters =
+    ap (λ (l : LaneValue). l.home) c.lane.view_is ∙ c.requires.own ∙ sym c.self.view_is in
     (ap (λ (h : FloorValue). h.table) home, ap (λ (h : FloorValue). h.start) home)
 
 pub sweep-first-requires-clause-slots : goal.sweep-first-requires-clause-slots
@@ -174,26 +222,31 @@ sweep-first-requires-clause-slots c = (c.lane.invariant.no_slot, c.lane.invarian
 
 pub sweep-first-requires-clause-once : goal.sweep-first-requires-clause-once
 sweep-first-requires-clause-once c token =
-    subst (λ (ls : Lists). times_in ls token ≤ 1) (ap (λ (l : LaneValue). l.yard.lists) (sym c.lane.view_is) ∙ c.lane.invariant.tokens) (c.lane_laws.ensures.once token)
+    subst (λ (ls : Lists). times_in ls token ≤ 1) (ap (λ (l : LaneValue). l.yard.lists) (sym c.lane.view_is) ∙ c.lane.invariant.tokens)
+    (c.lane_laws.ensures.once token)
 
 pub sweep-first-requires-clause-wires : goal.sweep-first-requires-clause-wires
 sweep-first-requires-clause-wires c =
-    let home : (lane_of c.lane.inside).home ≡ c.self.inside.counters = ap (λ (l : LaneValue). l.home) c.lane.view_is ∙ c.requires.own ∙ sym c.self.view_is in
+    let home : (lane_of c.lane.inside).home ≡ c.self.inside.counters =
+    ap (λ (l : LaneValue). l.home) c.lane.view_is ∙ c.requires.own ∙ sym c.self.view_is in
     sym (ap length c.lane.invariant.tokens) ∙ c.lane.invariant.wires ∙ ap (λ (h : FloorValue). length h.start.network.table.ends) home
 
 pub sweep-first-requires-clause-wire : goal.sweep-first-requires-clause-wire
 sweep-first-requires-clause-wire c =
-    let home : (lane_of c.lane.inside).home ≡ c.self.inside.counters = ap (λ (l : LaneValue). l.home) c.lane.view_is ∙ c.requires.own ∙ sym c.self.view_is in
+    let home : (lane_of c.lane.inside).home ≡ c.self.inside.counters =
+    ap (λ (l : LaneValue). l.home) c.lane.view_is ∙ c.requires.own ∙ sym c.self.view_is in
     subst (λ (n : ℕ). c.args.wire < n) (c.lane.invariant.wires ∙ ap (λ (h : FloorValue). length h.start.network.table.ends) home)
     (some-inside c.lane.inside.yard.lists c.args.wire (rw (← c.lane.view_is) at c.requires.some))
 
 pub sweep-first-requires-clause-ends : goal.sweep-first-requires-clause-ends
 sweep-first-requires-clause-ends c =
-    ap (λ (x : Network). end_of x.table c.args.wire) (ap (λ (h : FloorValue). h.start.network) c.self.view_is ∙ sym c.network-network.ensures.value) ∙ c.end-end.ensures.at
+    ap (λ (x : Network). end_of x.table c.args.wire)
+    (ap (λ (h : FloorValue). h.start.network) c.self.view_is ∙ sym c.network-network.ensures.value) ∙ c.end-end.ensures.at
 
 pub sweep-first-requires-clause-stands : goal.sweep-first-requires-clause-stands
 sweep-first-requires-clause-stands c =
-    subst (λ (x : Network). Stands x.table c.end-end.result) (c.network-network.ensures.value ∙ ap (λ (h : FloorValue). h.start.network) (sym c.self.view_is)) c.end-end.ensures.there
+    subst (λ (x : Network). Stands x.table c.end-end.result)
+    (c.network-network.ensures.value ∙ ap (λ (h : FloorValue). h.start.network) (sym c.self.view_is)) c.end-end.ensures.there
 
 pub overflow_mul-out : goal.overflow_mul-out
 overflow_mul-out c =

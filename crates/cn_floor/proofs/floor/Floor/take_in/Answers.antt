@@ -17,12 +17,17 @@ pub returns-in_default-clause-err : goal.returns-in_default-clause-err
 returns-in_default-clause-err c = c.lane.view_is
 
 pub returns-in_default-clause-room : goal.returns-in_default-clause-room
-returns-in_default-clause-room c = omega (arith, c.in_default.ensures.err, ap length c.grants.ensures, ap (λ (l : LaneValue). l.room) c.lane.view_is)
+returns-in_default-clause-room c = omega
+    (arith, c.in_default.ensures.err, ap length c.grants.ensures, ap (λ (l : LaneValue). l.room) c.lane.view_is)
 
 pub join-requires-clause-own : goal.join-requires-clause-own
 join-requires-clause-own c =
-    let home : (lane_of c.lane.inside).home ≡ c.self.inside.counters = ap (λ (l : LaneValue). l.home) c.lane.view_is ∙ c.requires.own.0 ∙ sym c.self.view_is in
-    (ap (λ (h : FloorValue). h.table) home, c.into_parts-seat.ensures.seat.0 ∙ ap (λ (h : FloorValue). h.table) (c.requires.own.1 ∙ sym c.self.view_is))
+    let home : (lane_of c.lane.inside).home ≡ c.self.inside.counters =
+    ap (λ (l : LaneValue). l.home) c.lane.view_is ∙ c.requires.own.0 ∙ sym c.self.view_is in (
+      ap (λ (h : FloorValue). h.table) home,
+      c.into_parts-seat.ensures.seat.0
+          ∙ ap (λ (h : FloorValue). h.table) (c.requires.own.1 ∙ sym c.self.view_is),
+    )
 
 pub join-requires-clause-slots : goal.join-requires-clause-slots
 join-requires-clause-slots c =
@@ -38,7 +43,11 @@ pub overflow_add-lane : goal.overflow_add-lane
 overflow_add-lane c = omega (arith, c.lane.invariant.few, c.into_parts-seat.ensures.quota, c.lane_laws.ensures.few)
 
 pub append-requires : goal.append-requires
-append-requires c = omega (arith, c.in-Ok.ensures.ok, ap length (c.as_slice.ensures.value ∙ c.into_parts-seat.ensures.grants ∙ sym c.grants.ensures))
+append-requires c = omega (
+  arith,
+  c.in-Ok.ensures.ok,
+  ap length (c.as_slice.ensures.value ∙ c.into_parts-seat.ensures.grants ∙ sym c.grants.ensures),
+)
 
 -- what the lane's view is in the end
 module _ (c : goal.After-drop-grants) where

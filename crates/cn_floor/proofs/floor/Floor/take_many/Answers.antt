@@ -13,7 +13,8 @@ pub pass_names-requires-clause-once : goal.pass_names-requires-clause-once
 pass_names-requires-clause-once c =
     let came = c.come_in.ensures.came in
     let held : taker_of c.taker.inside ≡ c.args.taker.now = c.taker.view_is in
-    let begun : c.taker.inside.seat.me.0.start ≡ c.args.self.now.start = ap (λ (t : TakerValue). t.home.start) held ∙ ap (λ (h : FloorValue). h.start) c.requires.own in
+    let begun : c.taker.inside.seat.me.0.start ≡ c.args.self.now.start =
+    ap (λ (t : TakerValue). t.home.start) held ∙ ap (λ (h : FloorValue). h.start) c.requires.own in
     came-once c.taker.inside.seat.me.0 c.come_in.new.seat.me.0 c.args.names.now c.args.entry (length c.args.names.now) came
     (omega (
       arith,

@@ -9,7 +9,8 @@ pub pass_on-wire-requires-clause-wires : goal.pass_on-wire-requires-clause-wires
 pass_on-wire-requires-clause-wires c =
     let v : View = c.args.seat.now.me.0 in
     ap (λ (x : View). length x.tokens) c.enter.ensures.came.0
-    ∙ length-map-range_with_len (λ u. on v.tokens u ++ last_on c.first-token.result c.args.client c.args.entry u) 0 (length v.tokens) ∙ c.requires.wires
+    ∙ length-map-range_with_len (λ u. on v.tokens u ++ last_on c.first-token.result c.args.client c.args.entry u) 0 (length v.tokens)
+    ∙ c.requires.wires
 
 pub pass_on-wire-requires-clause-alone : goal.pass_on-wire-requires-clause-alone
 pass_on-wire-requires-clause-alone c =
@@ -26,7 +27,8 @@ pub step-visit-requires-clause-wires : goal.step-visit-requires-clause-wires
 step-visit-requires-clause-wires c =
     let v : View = c.args.seat.now.me.0 in
     c.pass_on-wire.ensures.passed.wires ∙ ap (λ (x : View). length x.tokens) c.enter.ensures.came.0
-    ∙ length-map-range_with_len (λ u. on v.tokens u ++ last_on c.first-token.result c.args.client c.args.entry u) 0 (length v.tokens) ∙ c.requires.wires
+    ∙ length-map-range_with_len (λ u. on v.tokens u ++ last_on c.first-token.result c.args.client c.args.entry u) 0 (length v.tokens)
+    ∙ c.requires.wires
     ∙ ap (λ (h : FloorValue). length h.start.network.table.ends) (sym c.self.view_is)
 
 pub returns-clause-gone : goal.returns-clause-gone
@@ -37,7 +39,8 @@ returns-clause-gone c =
     c.pass_on-wire.ensures.passed.wires ∙ ap (λ (x : View). length x.tokens) c.enter.ensures.came.0
     ∙ length-map-range_with_len (λ u. on v.tokens u ++ last_on c.first-token.result c.args.client c.args.entry u) 0 (length v.tokens) in
     ap (λ (x : View). x.tokens) c.step-visit.ensures.went.0
-    ∙ gone-alone c.first-token.result c.args.client c.pass_on-wire.result c.in-Exit.exit c.step-visit.result before c.pass_on-wire.ensures.alone
+    ∙ gone-alone c.first-token.result c.args.client c.pass_on-wire.result c.in-Exit.exit c.step-visit.result before
+    c.pass_on-wire.ensures.alone
     ∙ ap (λ (n : ℕ). replicate n []) wires
 
 pub returns-clause-walked : goal.returns-clause-walked
@@ -50,16 +53,20 @@ returns-clause-walked c =
       inside = c.enter.new.seat.me.0;
       before = c.pass_on-wire.new.seat.me.0;
       came = c.enter.ensures.came.0;
-      comes = subst (λ (s : Start). IsAtomicStep s c.args.seat.now.me.0 c.enter.new.seat.me.0 (λ l m. Enters s.network.table l m c.args.client c.args.entry)) same c.enter.ensures.came.1;
+      comes = subst (λ (s : Start). IsAtomicStep s c.args.seat.now.me.0 c.enter.new.seat.me.0
+          (λ l m. Enters s.network.table l m c.args.client c.args.entry)) same c.enter.ensures.came.1;
       passes = c.pass_on-wire.ensures.by.1;
       ends = search rules;
-      leaves = subst (λ (s : Start). IsLetBy s c.pass_on-wire.new.seat.me.0 c.step-visit.new.seat.me.0 c.args.client (Exit c.in-Exit.exit) c.step-visit.result) same c.step-visit.ensures.went.1;
+      leaves = subst (λ (s : Start). IsLetBy s c.pass_on-wire.new.seat.me.0 c.step-visit.new.seat.me.0 c.args.client (Exit c.in-Exit.exit)
+          c.step-visit.result) same c.step-visit.ensures.went.1;
       after = c.step-visit.ensures.went.0;
     }
 
 pub enter-requires-clause-own : goal.enter-requires-clause-own
-enter-requires-clause-own c =
-    (c.requires.own.0 ∙ ap (λ (h : FloorValue). h.table) (sym c.self.view_is), c.requires.own.1 ∙ ap (λ (h : FloorValue). h.start) (sym c.self.view_is))
+enter-requires-clause-own c = (
+  c.requires.own.0 ∙ ap (λ (h : FloorValue). h.table) (sym c.self.view_is),
+  c.requires.own.1 ∙ ap (λ (h : FloorValue). h.start) (sym c.self.view_is),
+)
 
 pub enter-requires-clause-entry : goal.enter-requires-clause-entry
 enter-requires-clause-entry c = (
@@ -68,7 +75,10 @@ enter-requires-clause-entry c = (
 )
 
 pub pass_on-wire-requires-clause-own : goal.pass_on-wire-requires-clause-own
-pass_on-wire-requires-clause-own c = (c.enter.ensures.seat.0 ∙ c.requires.own.0, ap (λ (x : View). x.start) c.enter.ensures.came.0 ∙ c.requires.own.1)
+pass_on-wire-requires-clause-own c = (
+  c.enter.ensures.seat.0 ∙ c.requires.own.0,
+  ap (λ (x : View). x.start) c.enter.ensures.came.0 ∙ c.requires.own.1,
+)
 
 pub pass_on-wire-requires-clause-slots : goal.pass_on-wire-requires-clause-slots
 pass_on-wire-requires-clause-slots c = (c.enter.ensures.seat.1, ap (λ (x : View). x.loads) c.enter.ensures.came.0 ∙ c.requires.slots.1)
@@ -76,20 +86,26 @@ pass_on-wire-requires-clause-slots c = (c.enter.ensures.seat.1, ap (λ (x : View
 pub step-visit-requires-clause-own : goal.step-visit-requires-clause-own
 step-visit-requires-clause-own c = (
   c.pass_on-wire.ensures.seat.0 ∙ c.enter.ensures.seat.0 ∙ c.requires.own.0 ∙ ap (λ (h : FloorValue). h.table) (sym c.self.view_is),
-  c.pass_on-wire.ensures.passed.start ∙ ap (λ (x : View). x.start) c.enter.ensures.came.0 ∙ c.requires.own.1 ∙ ap (λ (h : FloorValue). h.start) (sym c.self.view_is),
+  c.pass_on-wire.ensures.passed.start ∙ ap (λ (x : View). x.start) c.enter.ensures.came.0 ∙ c.requires.own.1
+      ∙ ap (λ (h : FloorValue). h.start) (sym c.self.view_is),
 )
 
 pub step-visit-requires-clause-slots : goal.step-visit-requires-clause-slots
-step-visit-requires-clause-slots c =
-    (c.pass_on-wire.ensures.seat.1, c.pass_on-wire.ensures.passed.loads ∙ ap (λ (x : View). x.loads) c.enter.ensures.came.0 ∙ c.requires.slots.1)
+step-visit-requires-clause-slots c = (
+  c.pass_on-wire.ensures.seat.1,
+  c.pass_on-wire.ensures.passed.loads ∙ ap (λ (x : View). x.loads) c.enter.ensures.came.0
+      ∙ c.requires.slots.1,
+)
 
 pub step-visit-requires-clause-ends : goal.step-visit-requires-clause-ends
 step-visit-requires-clause-ends c =
-    ap (λ (n : Network). end_of n.table c.pass_on-wire.result) (ap (λ (h : FloorValue). h.start.network) c.self.view_is ∙ sym c.network-network.ensures.value) ∙ c.end.ensures.at ∙ c.in-Exit.is
+    ap (λ (n : Network). end_of n.table c.pass_on-wire.result)
+    (ap (λ (h : FloorValue). h.start.network) c.self.view_is ∙ sym c.network-network.ensures.value) ∙ c.end.ensures.at ∙ c.in-Exit.is
 
 pub step-visit-requires-clause-stands : goal.step-visit-requires-clause-stands
 step-visit-requires-clause-stands c =
-    subst (λ (n : Network). Stands n.table (Exit c.in-Exit.exit)) (c.network-network.ensures.value ∙ ap (λ (h : FloorValue). h.start.network) (sym c.self.view_is))
+    subst (λ (n : Network). Stands n.table (Exit c.in-Exit.exit))
+    (c.network-network.ensures.value ∙ ap (λ (h : FloorValue). h.start.network) (sym c.self.view_is))
     (subst (λ (e : End). Stands c.network-network.result.now.table e) c.in-Exit.is c.end.ensures.there)
 
 pub returns-clause-exit : goal.returns-clause-exit

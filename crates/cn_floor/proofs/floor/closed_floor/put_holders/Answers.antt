@@ -7,7 +7,11 @@ pub bounds-holders-grant : goal.bounds-holders-grant
 bounds-holders-grant c =
     let grants : List Grant = c.args.grants.now in
     let low : c.loop-grant.grant-index < length grants = omega (arith, c.loop-grant-test.true) in
-    omega (arith, name-low grants c.requires.names c.loop-grant.grant-index (record { client = 0; exit = 0; visit = 0; name = 0 }) low, c.loop-grant.invariant.0)
+    omega (
+      arith,
+      name-low grants c.requires.names c.loop-grant.grant-index (record { client = 0; exit = 0; visit = 0; name = 0 }) low,
+      c.loop-grant.invariant.0,
+    )
 
 pub offset_bounds-holders-grant : goal.offset_bounds-holders-grant
 offset_bounds-holders-grant c =
@@ -19,7 +23,8 @@ offset_bounds-holders-grant c =
 
 pub loop-grant-preserved : goal.loop-grant-preserved
 loop-grant-preserved c =
-    one-more c.args.grants.now c.requires.names c.loop-grant.grant-index (record { client = 0; exit = 0; visit = 0; name = 0 }) c.loop-grant.holders c.loop-grant-test.true c.loop-grant.invariant
+    one-more c.args.grants.now c.requires.names c.loop-grant.grant-index (record { client = 0; exit = 0; visit = 0; name = 0 })
+    c.loop-grant.holders c.loop-grant-test.true c.loop-grant.invariant
 
 pub returns : goal.returns
 returns c =

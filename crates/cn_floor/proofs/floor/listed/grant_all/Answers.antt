@@ -40,7 +40,8 @@ loop-number-preserved c =
     let next : j + 1 ≡ suc j = omega arith in
     let more : placed clients g.first g.stride (j + 1) ≡ so_far ++ (at, slice_index clients at) ∷ [] =
     ap (placed clients g.first g.stride) next ∙ placed-more clients g.first g.stride j in
-    let grows : out (placed clients g.first g.stride (j + 1)) ≡ out so_far ++ one (name_of c.args.width c.args.exit (c.args.first + j) - c.args.base) ∷ [] =
+    let grows : out (placed clients g.first g.stride (j + 1))
+    ≡ out so_far ++ one (name_of c.args.width c.args.exit (c.args.first + j) - c.args.base) ∷ [] =
     ap out more ∙ grants-next c.args.width c.args.base c.args.exit c.args.first (c.args.first + j) so_far at (slice_index clients at)
     (omega (arith, placed-many clients g.first g.stride j)) in
     record {

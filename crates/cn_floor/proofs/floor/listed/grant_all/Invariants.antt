@@ -5,6 +5,7 @@ use Rattle.cn_floor.proofs.floor.listed.grant_all.Given as goal
 
 abbrev pub invariant-loop-number : goal.invariant-loop-number
 invariant-loop-number l = record {
-  granted : l.grants.items ≡ l.initial.grants.items ++ grants_out l.width l.base l.exit l.first (placed l.clients l.group.first l.group.stride l.number);
+  granted : l.grants.items ≡ l.initial.grants.items
+      ++ grants_out l.width l.base l.exit l.first (placed l.clients l.group.first l.group.stride l.number);
   capacity : vec_capacity l.grants ≡ vec_capacity l.initial.grants;
 }

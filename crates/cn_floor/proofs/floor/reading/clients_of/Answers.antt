@@ -12,9 +12,24 @@ overflow_add-clients c =
     let t = c.args.network.now.table in
     let f : ℕ → ℕ = entered_in t (words_in c.args.stride (slots_items c.args.table.now.words)) in
     let low = c.loop-entry-test.true in
-    omega (arith, c.loop-entry.invariant, c.requires.few, c.entries-entry-end.ensures.value, entered-word t (words_in c.args.stride (slots_items c.args.table.now.words)) c.loop-entry.entry (omega (arith, low, c.entries-entry-end.ensures.value)), sum-below-next f c.loop-entry.entry, sum-below-fewer f (c.loop-entry.entry + 1) t.entries (omega (arith, low, c.entries-entry-end.ensures.value)))
+    omega (
+      arith,
+      c.loop-entry.invariant,
+      c.requires.few,
+      c.entries-entry-end.ensures.value,
+      entered-word t (words_in c.args.stride (slots_items c.args.table.now.words)) c.loop-entry.entry
+          (omega (arith, low, c.entries-entry-end.ensures.value)),
+      sum-below-next f c.loop-entry.entry,
+      sum-below-fewer f (c.loop-entry.entry + 1) t.entries (omega (arith, low, c.entries-entry-end.ensures.value)),
+    )
 
 pub loop-entry-preserved : goal.loop-entry-preserved
 loop-entry-preserved c =
     let t = c.args.network.now.table in
-    omega (arith, c.loop-entry.invariant, entered-word t (words_in c.args.stride (slots_items c.args.table.now.words)) c.loop-entry.entry (omega (arith, c.loop-entry-test.true, c.entries-entry-end.ensures.value)), sum-below-next (entered_in t (words_in c.args.stride (slots_items c.args.table.now.words))) c.loop-entry.entry)
+    omega (
+      arith,
+      c.loop-entry.invariant,
+      entered-word t (words_in c.args.stride (slots_items c.args.table.now.words)) c.loop-entry.entry
+          (omega (arith, c.loop-entry-test.true, c.entries-entry-end.ensures.value)),
+      sum-below-next (entered_in t (words_in c.args.stride (slots_items c.args.table.now.words))) c.loop-entry.entry,
+    )

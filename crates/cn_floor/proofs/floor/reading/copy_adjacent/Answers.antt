@@ -10,7 +10,8 @@ loop-word-init c = search rules
 pub loop-word-preserved : goal.loop-word-preserved
 loop-word-preserved c =
     let got = at-get (slots_items c.args.table.now.words) c.loop-word.word c.word.result c.word.ensures in
-    copied-next c.loop-word.words (slots_items c.args.table.now.words) c.loop-word.word c.word.result c.loop-word.invariant.0 got.0 c.loop-word.invariant.1 got.1
+    copied-next c.loop-word.words (slots_items c.args.table.now.words) c.loop-word.word c.word.result c.loop-word.invariant.0 got.0
+    c.loop-word.invariant.1 got.1
 
 pub returns : goal.returns
 returns c =

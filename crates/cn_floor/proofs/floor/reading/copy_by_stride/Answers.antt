@@ -6,7 +6,8 @@ use Rattle.cn_floor.proofs.floor.reading.copy_by_stride.Goals as goal
 
 -- words side by side are all that the table has
 side-by-side : (stride : ℕ) (spaced : List ℕ) → IsSpaced stride spaced → stride ≡ 1 → words_in stride spaced ≡ spaced
-side-by-side stride spaced is one = sym (is.apart ∙ ap (λ (n : ℕ). spread n (words_in stride spaced)) one ∙ spread-one (words_in stride spaced))
+side-by-side stride spaced is one = sym (is.apart ∙ ap (λ (n : ℕ). spread n (words_in stride spaced)) one
+    ∙ spread-one (words_in stride spaced))
 
 pub copy_adjacent-requires-clause-places : goal.copy_adjacent-requires-clause-places
 copy_adjacent-requires-clause-places c =

@@ -22,7 +22,8 @@ returns-clause-ok c =
     elim c.match-entry.branch [
       | in-Ok-Vacant w ↦
           let absent : get nat_eq old client ≡ None = grind (arith, common_steps) in
-          let written : c.match-entry.self-inside.map.entries ≡ insert_entry nat_eq old.entries client (Walking c.args.token) = grind (arith, common_steps) in
+          let written : c.match-entry.self-inside.map.entries ≡ insert_entry nat_eq old.entries client (Walking c.args.token) =
+          grind (arith, common_steps) in
           rw (w.result-is, ← c.self.view_is) (written ∙ insert_entry-new nat_eq old client (Walking c.args.token) absent)
       | in-Ok-Occupied w ↦ grind (arith, common_steps)
       | in-Err w ↦ grind (arith, common_steps)

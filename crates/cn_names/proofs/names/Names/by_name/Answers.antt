@@ -14,19 +14,27 @@ pub returns-in-Ok-clause-everyone : goal.returns-in-Ok-clause-everyone
 returns-in-Ok-clause-everyone c =
     let e = c.is_any_walking.ensures in
     let l = c.in-Ok.ensures in
-    ap length l.listed ∙ length-map l.grants (λ (grant : ℕ × ℕ). grant.1) ∙ length_permutation (grants_in c.args.self.now) l.grants l.all ∙ length-grants-in c.args.self.now (sym e.value ∙ c.if-is_any_walking.false)
+    ap length l.listed ∙ length-map l.grants (λ (grant : ℕ × ℕ). grant.1) ∙ length_permutation (grants_in c.args.self.now) l.grants l.all
+    ∙ length-grants-in c.args.self.now (sym e.value ∙ c.if-is_any_walking.false)
 
 pub returns-in-Ok-clause-walking : goal.returns-in-Ok-clause-walking
 returns-in-Ok-clause-walking c =
-    let e = c.is_any_walking.ensures in
-    (λ said. absurd (cc), λ someone. absurd (true≢false (sym (any-from-walking c.args.self.now someone.0 someone.1.0 someone.1.1) ∙ sym e.value ∙ c.if-is_any_walking.false)))
+    let e = c.is_any_walking.ensures in (
+      λ said. absurd (cc),
+      λ someone. absurd (true≢false
+          (sym (any-from-walking c.args.self.now someone.0 someone.1.0 someone.1.1) ∙ sym e.value ∙ c.if-is_any_walking.false)),
+    )
 
 pub returns-in-Ok-clause-settled : goal.returns-in-Ok-clause-settled
 returns-in-Ok-clause-settled c =
     let e = c.is_any_walking.ensures in
-    λ client walking. true≢false (sym (any-from-walking c.args.self.now client walking.0 walking.1) ∙ sym e.value ∙ c.if-is_any_walking.false)
+    λ client walking. true≢false (sym (any-from-walking c.args.self.now client walking.0 walking.1) ∙ sym e.value
+    ∙ c.if-is_any_walking.false)
 
 pub returns-in-Err-clause-walking : goal.returns-in-Err-clause-walking
 returns-in-Err-clause-walking c =
-    let e = c.is_any_walking.ensures in
-    (λ said. absurd (cc), λ someone. absurd (true≢false (sym (any-from-walking c.args.self.now someone.0 someone.1.0 someone.1.1) ∙ sym e.value ∙ c.if-is_any_walking.false)))
+    let e = c.is_any_walking.ensures in (
+      λ said. absurd (cc),
+      λ someone. absurd (true≢false
+          (sym (any-from-walking c.args.self.now someone.0 someone.1.0 someone.1.1) ∙ sym e.value ∙ c.if-is_any_walking.false)),
+    )

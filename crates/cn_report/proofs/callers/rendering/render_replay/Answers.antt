@@ -7,7 +7,8 @@ pub write_replay-requires-clause-whole : goal.write_replay-requires-clause-whole
 write_replay-requires-clause-whole c =
     let w = c.args.network.now.table.width in
     let wide : 0 < w = omega (arith, c.width.ensures.network.formed.width.0) in
-    All-from_recursion (IsWholeKept w) c.args.answers.now (kept-whole w c.args.answers.now wide (recursion_from_All (IsWhole w) c.args.answers.now c.requires.whole)).1
+    All-from_recursion (IsWholeKept w) c.args.answers.now
+    (kept-whole w c.args.answers.now wide (recursion_from_All (IsWhole w) c.args.answers.now c.requires.whole)).1
 
 pub returns-in-Ok : goal.returns-in-Ok
 returns-in-Ok c =

@@ -9,8 +9,10 @@ loop-epoch-init g c = put-none
 
 pub loop-epoch-preserved : goal.loop-epoch-preserved
 loop-epoch-preserved g c =
-    let holders = subst HasHolders (sym c.epoch-item.is) (All-get_or HasHolders c.args.records.now c.loop-epoch.epoch-index c.epoch-item.result c.loop-epoch-test.true c.requires) in
-    put-next grants-of c.args.records.now c.loop-epoch.epoch-index c.epoch-item.result c.epoch-item.result c.loop-epoch-test.true c.epoch-item.is c.loop-epoch.invariant
+    let holders = subst HasHolders (sym c.epoch-item.is)
+    (All-get_or HasHolders c.args.records.now c.loop-epoch.epoch-index c.epoch-item.result c.loop-epoch-test.true c.requires) in
+    put-next grants-of c.args.records.now c.loop-epoch.epoch-index c.epoch-item.result c.epoch-item.result c.loop-epoch-test.true
+    c.epoch-item.is c.loop-epoch.invariant
     (rw (c.deref.ensures.value, holders) at c.send_names.ensures)
 
 pub returns : goal.returns

@@ -11,7 +11,8 @@ use Rattle.cn_report.proofs.grants.list.named_grants_within.Goals as goal
 
 pub returns-clause-answer : goal.returns-clause-answer
 returns-clause-answer g c =
-    let answers : List Record → Type 0 = λ records. MatchResult c.take_grants.result (λ epochs. IsNamedList (bounds_of c.args.large 0).records records epochs.items)
+    let answers : List Record → Type 0 = λ records.
+    MatchResult c.take_grants.result (λ epochs. IsNamedList (bounds_of c.args.large 0).records records epochs.items)
     (IsFlaw (bounds_of c.args.large 0).records records) in
     let remaining = clipped_remaining g.R.Read.remaining in
     let read = known-map (remaining c.new.result) (λ text. HasRead remaining c.in_ok-records.records.value text [])
@@ -22,7 +23,8 @@ returns-clause-answer g c =
 
 pub returns-clause-exact : goal.returns-clause-exact
 returns-clause-exact g c =
-    let answers : List Record → Type 0 = λ records. IfErr c.take_grants.result (λ flaw. IsTightList (bounds_of c.args.large 0).records records → IsOutside flaw) in
+    let answers : List Record → Type 0 = λ records.
+    IfErr c.take_grants.result (λ flaw. IsTightList (bounds_of c.args.large 0).records records → IsOutside flaw) in
     let remaining = clipped_remaining g.R.Read.remaining in
     let read = known-map (remaining c.new.result) (λ text. HasRead remaining c.in_ok-records.records.value text [])
     (λ text. answers (records_of text))

@@ -24,8 +24,10 @@ pub returns-in-Ok-false : goal.returns-in-Ok-false
 returns-in-Ok-false g c = record {
   answer = λ text read.
       let (before, grants, now, size, t, checked) = c.loop-at.invariant.taken text read in
-      let (all, ended) = rw c.in-Ok-false.field-0-test at (c.in-Ok-false.ensures.found text before grants now checked (omega (arith, t.counted, size))) in
-      taken-end (λ epochs. epochs.items) c.args.most (records_of text) before grants c.finish.result t all (c.finish.ensures.answer grants ended.holds)
+      let (all, ended) = rw c.in-Ok-false.field-0-test at
+      (c.in-Ok-false.ensures.found text before grants now checked (omega (arith, t.counted, size))) in
+      taken-end (λ epochs. epochs.items) c.args.most (records_of text) before grants c.finish.result t all
+      (c.finish.ensures.answer grants ended.holds)
       (if_ok-map c.finish.result c.finish.ensures.found (λ epochs found. found grants ended.holds ended.tells));
 }
 
@@ -37,9 +39,11 @@ returns-in-Err-take_grant g c = record {
       (elim (c.in-Err-take_grant.ensures.refused text before grants now checked (omega (arith, t.counted, size))) [
         | inl w ↦
             let (fields, next, e) = w in
-            rw (← size) (stop_at header_cause (record_cause c.args.most) IsOfReading g.R.Read.remaining c.take_grant.new.records text before fields c.in-Err-take_grant.cause t.clean next
+            rw (← size) (stop_at header_cause (record_cause c.args.most) IsOfReading g.R.Read.remaining c.take_grant.new.records text before
+            fields c.in-Err-take_grant.cause t.clean next
             (at-grants c.args.most before grants fields t c.in-Err-take_grant.cause e))
-        | inr w ↦ rw (← size) (stop-before header_cause (record_cause c.args.most) IsOfReading g.R.Read.remaining c.loop-at.records text before c.in-Err-take_grant.cause t.clean now w)
+        | inr w ↦ rw (← size) (stop-before header_cause (record_cause c.args.most) IsOfReading g.R.Read.remaining c.loop-at.records text
+            before c.in-Err-take_grant.cause t.clean now w)
       ]));
 }
 
@@ -52,7 +56,9 @@ loop-at-preserved g c =
       plain = c.in-Ok-true.ensures.plain;
       taken = λ text read.
           let (before, grants, now, size, t, checked) = c.loop-at.invariant.taken text read in
-          let (fields, grant, next, is, none, more) = rw c.in-Ok-true.field-0-test at (c.in-Ok-true.ensures.found text before grants now checked (omega (arith, t.counted, size))) in (
+          let (fields, grant, next, is, none, more) =
+          rw c.in-Ok-true.field-0-test at (c.in-Ok-true.ensures.found text before grants now checked
+          (omega (arith, t.counted, size))) in (
             before ++ fields ∷ [],
             grants ++ grant ∷ [],
             next,

@@ -10,8 +10,10 @@ use Rattle.cn_report.proofs.grants.text.send_all_names.Invariants.{lines}
 use Rattle.cn_report.proofs.grants.text.send_all_names.Goals as goal
 
 -- a record, by what is put of it
-record-lines : (carry : Bool) (w m : ℕ) (e : BatchEpoch) (epochs : List BatchEpoch) (records : List EpochRecord) (holders own : List ℕ) → own ≡ take (length e.clients.items) holders
-    → length own ≡ length e.clients.items → (f : FirstRecord (λ r. grant_lines r.number r.clients r.holders.items) carry w m e epochs records holders)
+record-lines : (carry : Bool) (w m : ℕ) (e : BatchEpoch) (epochs : List BatchEpoch) (records : List EpochRecord) (holders own : List ℕ)
+    → own ≡ take (length e.clients.items) holders
+    → length own ≡ length e.clients.items → (f : FirstRecord (λ r. grant_lines r.number r.clients r.holders.items) carry w m e epochs
+    records holders)
     → lines records ≡ grant_lines e.number (length own) own ++ lines f.later
 record-lines carry w m e epochs records holders own front many f =
     f.parts ∙ ap (λ (t : List ℕ). t ++ lines f.later) (rw (f.mine.number, f.mine.clients, f.mine.holders, many, front) refl)
@@ -48,13 +50,17 @@ loop-epoch-preserved g c =
       );
       put = λ carry width records are.
           let (m, later, rest, sofar, whole, puts) = c.loop-epoch.invariant.put carry width records are in
-          let f = first-record (λ r. grant_lines r.number r.clients r.holders.items) carry width m c.args.epochs.now c.loop-epoch.epoch-index e later c.loop-epoch.left.now c.loop-epoch-test.true c.epoch-item.is rest in
-          let parts = record-lines carry width m e _ later c.loop-epoch.left.now c.split_at.result.0.now front (c.split_at.ensures.front_len ∙ count) f in (
+          let f = first-record (λ r. grant_lines r.number r.clients r.holders.items) carry width m c.args.epochs.now
+          c.loop-epoch.epoch-index e later c.loop-epoch.left.now c.loop-epoch-test.true c.epoch-item.is rest in
+          let parts = record-lines carry width m e _ later c.loop-epoch.left.now c.split_at.result.0.now front
+          (c.split_at.ensures.front_len ∙ count) f in (
             when carry (m + length e.clients.items),
             f.later,
-            subst (λ (t : List ℕ). AreRecordsOf carry width (when carry (m + length e.clients.items)) (drop (c.loop-epoch.epoch-index + 1) c.args.epochs.now) f.later t) (sym back) f.rest,
+            subst (λ (t : List ℕ). AreRecordsOf carry width (when carry (m + length e.clients.items))
+                (drop (c.loop-epoch.epoch-index + 1) c.args.epochs.now) f.later t) (sym back) f.rest,
             sofar ++ grant_lines e.number (length c.split_at.result.0.now) c.split_at.result.0.now,
-            whole ∙ ap (λ (t : List ℕ). sofar ++ t) parts ∙ sym (append_assoc sofar (grant_lines e.number (length c.split_at.result.0.now) c.split_at.result.0.now) (lines f.later)),
+            whole ∙ ap (λ (t : List ℕ). sofar ++ t) parts
+                ∙ sym (append_assoc sofar (grant_lines e.number (length c.split_at.result.0.now) c.split_at.result.0.now) (lines f.later)),
             put-then puts c.send_names.ensures,
           );
     }
@@ -62,5 +68,6 @@ loop-epoch-preserved g c =
 pub returns : goal.returns
 returns g c carry width records are =
     let (m, later, rest, sofar, whole, puts) = c.loop-epoch.invariant.put carry width records are in
-    let none = last-record (λ r. grant_lines r.number r.clients r.holders.items) carry width m c.args.epochs.now c.loop-epoch.epoch-index later c.loop-epoch.left.now c.loop-epoch-test.false rest in
+    let none = last-record (λ r. grant_lines r.number r.clients r.holders.items) carry width m c.args.epochs.now c.loop-epoch.epoch-index
+    later c.loop-epoch.left.now c.loop-epoch-test.false rest in
     put-same (sym (whole ∙ ap (λ (t : List ℕ). sofar ++ t) none ∙ append-nil sofar)) puts

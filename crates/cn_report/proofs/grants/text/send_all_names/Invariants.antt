@@ -15,5 +15,6 @@ invariant-loop-epoch g l =
       as_many : clients_of_epochs (drop l.epoch-index l.epochs) ≡ length l.left;
       put : (carry : Bool) (width : ℕ) (records : List EpochRecord) → AreRecordsOf carry width 0 l.epochs records l.holders
           → (m : ℕ) × (later : List EpochRecord) × AreRecordsOf carry width m (drop l.epoch-index l.epochs) later l.left
-          × (sofar : List ℕ) × (lines records ≡ sofar ++ lines later) × Puts g.W.Write.contents l.initial.writer l.writer l.initial.pieces l.pieces sofar;
+          × (sofar : List ℕ) × (lines records ≡ sofar ++ lines later)
+          × Puts g.W.Write.contents l.initial.writer l.writer l.initial.pieces l.pieces sofar;
     }

@@ -7,7 +7,9 @@ pub loop-name-init : goal.loop-name-init
 loop-name-init g c = put-none
 
 pub loop-name-preserved : goal.loop-name-preserved
-loop-name-preserved g c = put-line (λ name. grant_line c.args.epoch (slice_index c.args.holders.now name) name) c.loop-name.name c.loop-name.invariant c.send_grant.ensures
+loop-name-preserved g c = put-line (λ name. grant_line c.args.epoch (slice_index c.args.holders.now name) name) c.loop-name.name
+    c.loop-name.invariant c.send_grant.ensures
 
 pub returns : goal.returns
-returns g c = put-lines (λ name. grant_line c.args.epoch (slice_index c.args.holders.now name) name) c.loop-name.name (length c.args.holders.now) (omega arith) c.loop-name.invariant
+returns g c = put-lines (λ name. grant_line c.args.epoch (slice_index c.args.holders.now name) name) c.loop-name.name
+    (length c.args.holders.now) (omega arith) c.loop-name.invariant

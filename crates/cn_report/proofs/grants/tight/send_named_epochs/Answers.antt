@@ -20,10 +20,12 @@ loop-epoch-preserved g c =
 
 pub returns-then-has_failed : goal.returns-then-has_failed
 returns-then-has_failed g c =
-    put-cut tight_line (map (with_shares c.args.width) c.args.epochs.now) c.loop-epoch.epoch-index (sym c.has_failed.ensures ∙ c.if-has_failed.true) c.loop-epoch.invariant
+    put-cut tight_line (map (with_shares c.args.width) c.args.epochs.now) c.loop-epoch.epoch-index
+    (sym c.has_failed.ensures ∙ c.if-has_failed.true) c.loop-epoch.invariant
 
 pub returns : goal.returns
 returns g c =
     let part = with_shares c.args.width in
     let many = length-map c.args.epochs.now part in
-    put-last tight_line (map part c.args.epochs.now) c.loop-epoch.epoch-index (omega (arith, many, c.loop-epoch-test.false)) c.loop-epoch.invariant
+    put-last tight_line (map part c.args.epochs.now) c.loop-epoch.epoch-index (omega (arith, many, c.loop-epoch-test.false))
+    c.loop-epoch.invariant

@@ -13,9 +13,11 @@ loop-exit-preserved g c =
     let i = c.loop-exit.exit in
     let before = map part (range_with_len 0 i) in
     let more : tight_counts before ++ (32 ∷ decimal (part i)) ≡ tight_counts (map part (range_with_len 0 (i + 1))) =
-    flat_map_more (λ (count : ℕ). 32 ∷ decimal count) [] before (part i) ∙ ap tight_counts (sym (map-range_with_len_more part 0 i i (omega arith))) in
+    flat_map_more (λ (count : ℕ). 32 ∷ decimal count) [] before (part i)
+    ∙ ap tight_counts (sym (map-range_with_len_more part 0 i i (omega arith))) in
     put-same more (put-then c.loop-exit.invariant (rw (c.expected.ensures, c.from.ensures) at c.send_number.ensures))
 
 pub returns : goal.returns
 returns g c =
-    put-same (ap (λ n. tight_counts (map (share c.args.clients c.args.width) (range_with_len 0 n))) (let all : c.loop-exit.exit ≡ c.args.width = omega arith in all)) c.loop-exit.invariant
+    put-same (ap (λ n. tight_counts (map (share c.args.clients c.args.width) (range_with_len 0 n)))
+    (let all : c.loop-exit.exit ≡ c.args.width = omega arith in all)) c.loop-exit.invariant

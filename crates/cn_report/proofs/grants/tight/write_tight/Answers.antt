@@ -8,5 +8,7 @@ use Rattle.cn_report.proofs.grants.tight.write_tight.Goals as goal
 pub returns : goal.returns
 returns g c =
     let epochs = c.args.epochs.now in
-    let end = put-same (end-same (with_shares c.args.width) epochs (length epochs) c.count_named-grants.result refl c.count_named-grants.ensures) c.send_end.ensures in
-    c.finish.ensures c.args.writer.now (tight_text (map (with_shares c.args.width) epochs)) (put-all c.requires.fresh (put-then c.send_named_epochs.ensures end))
+    let end = put-same (end-same (with_shares c.args.width) epochs (length epochs) c.count_named-grants.result refl
+    c.count_named-grants.ensures) c.send_end.ensures in
+    c.finish.ensures c.args.writer.now (tight_text (map (with_shares c.args.width) epochs))
+    (put-all c.requires.fresh (put-then c.send_named_epochs.ensures end))

@@ -13,7 +13,8 @@ loop-end-init g c =
       keeps = c.requires.keeps;
       ahead = λ text header.
           next-ahead g.I.Read.remaining source.heading source.bounds text source c.read_stretch-end.new.self refl refl c.args.gathering _ _
-          (after-header g.I.Read.remaining source.heading source.bounds text source.records.value c.args.gathering header.fields header.read header.heads c.requires.none) read.reads;
+          (after-header g.I.Read.remaining source.heading source.bounds text source.records.value c.args.gathering header.fields header.read
+          header.heads c.requires.none) read.reads;
     }
 
 pub loop-end-preserved : goal.loop-end-preserved
@@ -30,8 +31,10 @@ loop-end-preserved g c =
       full = rw c.swap.ensures.x_after both.ensures.full;
       keeps = gathers.keeps;
       ahead = λ text header.
-          rw c.swap.ensures.x_after (next-ahead g.I.Read.remaining source.heading source.bounds text now.source both.new.source was.same.heading was.same.bounds both.new.gathering both.new.next.items both.result.1
-          (goes-on g.I.Read.remaining source.heading source.bounds text now.source.records.value now.gathering both.new.gathering now.stretch.items now.end (was.ahead text header) gathers goes) both.ensures.reads);
+          rw c.swap.ensures.x_after (next-ahead g.I.Read.remaining source.heading source.bounds text now.source both.new.source
+          was.same.heading was.same.bounds both.new.gathering both.new.next.items both.result.1
+          (goes-on g.I.Read.remaining source.heading source.bounds text now.source.records.value now.gathering both.new.gathering
+          now.stretch.items now.end (was.ahead text header) gathers goes) both.ensures.reads);
     }
 
 pub returns-in_err-gathered-clause-answer : goal.returns-in_err-gathered-clause-answer
@@ -42,7 +45,8 @@ returns-in_err-gathered-clause-answer g c =
     let reported = err_from_is_err_and c.from_residual.result c.from_residual.ensures.1 in
     let gathers = rw (c.in_err-gathered.was, c.deref.ensures.value, was.same.bounds) at c.gather_and_read-gathered.ensures.gathers in
     rw (reported.1, reported.2) (λ text header.
-    stretch-fault g.I.Read.remaining source.heading source.bounds text now.source.records.value now.gathering c.gather_and_read-gathered.new.gathering now.stretch.items now.end (was.ahead text header)
+    stretch-fault g.I.Read.remaining source.heading source.bounds text now.source.records.value now.gathering
+    c.gather_and_read-gathered.new.gathering now.stretch.items now.end (was.ahead text header)
     c.in_err-gathered.field-0.0 gathers)
 
 pub returns-in_err-gather-clause-answer : goal.returns-in_err-gather-clause-answer
@@ -53,7 +57,8 @@ returns-in_err-gather-clause-answer g c =
     let reported = err_from_is_err_and c.from_residual-in_err-gather.result c.from_residual-in_err-gather.ensures.1 in
     let gathers = rw (c.deref-2.ensures.value, c.bounds.ensures, was.same.bounds) at c.in_err-gather.ensures in
     rw (reported.1, reported.2) (λ text header.
-    stretch-fault g.I.Read.remaining source.heading source.bounds text now.source.records.value now.gathering c.gather.new.self now.stretch.items now.end (was.ahead text header)
+    stretch-fault g.I.Read.remaining source.heading source.bounds text now.source.records.value now.gathering c.gather.new.self
+    now.stretch.items now.end (was.ahead text header)
     c.in_err-gather.field-0.0 gathers)
 
 pub returns-in-Ok-clause-answer : goal.returns-in-Ok-clause-answer
@@ -63,7 +68,8 @@ returns-in-Ok-clause-answer g c = λ text header.
     let was = now.invariant in
     let gathers = rw (c.deref-2.ensures.value, c.bounds.ensures, was.same.bounds) at c.in_ok-gather.ensures in
     let ends = at-an-end now.end c.in-Ok.field-0 c.goes_on.result c.in-Ok.is c.loop-end-test.false c.goes_on.ensures.1 in
-    let (all, taken, gathered) = at-end g.I.Read.remaining source.heading source.bounds text now.source.records.value now.gathering c.gather.new.self now.stretch.items now.end (was.ahead text header) gathers ends in
+    let (all, taken, gathered) = at-end g.I.Read.remaining source.heading source.bounds text now.source.records.value now.gathering
+    c.gather.new.self now.stretch.items now.end (was.ahead text header) gathers ends in
     rw all (c.finish.ensures.answer source.heading source.bounds _ _ taken gathered)
 
 pub returns-in-Ok-clause-fits : goal.returns-in-Ok-clause-fits
@@ -83,4 +89,5 @@ returns-in-Err-clause-answer g c = λ text header.
     let was = now.invariant in
     let gathers = rw (c.deref-2.ensures.value, c.bounds.ensures, was.same.bounds) at c.in_ok-gather.ensures in
     rw c.next.ensures
-    (next-fault g.I.Read.remaining source.heading source.bounds text now.source.records.value now.gathering c.gather.new.self now.stretch.items now.end (was.ahead text header) gathers c.in-Err.cause c.in-Err.is)
+    (next-fault g.I.Read.remaining source.heading source.bounds text now.source.records.value now.gathering c.gather.new.self
+    now.stretch.items now.end (was.ahead text header) gathers c.in-Err.cause c.in-Err.is)

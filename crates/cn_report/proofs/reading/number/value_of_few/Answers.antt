@@ -7,11 +7,19 @@ use Rattle.cn_report.proofs.reading.number.value_of_few.Goals as goal
 
 pub overflow_mul-value : goal.overflow_mul-value
 overflow_mul-value c =
-    omega (arith, sum-fits c.loop-digit.digit-index c.loop-digit.value (get_or c.args.digits.now c.loop-digit.digit-index 0) (omega arith) c.loop-digit.invariant.2)
+    omega (
+      arith,
+      sum-fits c.loop-digit.digit-index c.loop-digit.value (get_or c.args.digits.now c.loop-digit.digit-index 0) (omega arith)
+          c.loop-digit.invariant.2,
+    )
 
 pub overflow_add-value : goal.overflow_add-value
 overflow_add-value c =
-    omega (arith, sum-fits c.loop-digit.digit-index c.loop-digit.value (get_or c.args.digits.now c.loop-digit.digit-index 0) (omega arith) c.loop-digit.invariant.2)
+    omega (
+      arith,
+      sum-fits c.loop-digit.digit-index c.loop-digit.value (get_or c.args.digits.now c.loop-digit.digit-index 0) (omega arith)
+          c.loop-digit.invariant.2,
+    )
 
 pub loop-digit-preserved : goal.loop-digit-preserved
 loop-digit-preserved c =

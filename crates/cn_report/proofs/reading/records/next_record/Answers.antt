@@ -6,12 +6,18 @@ use Rattle.cn_report.proofs.reading.records.next_record.Goals as goal
 pub returns-in-Ok-clause-plain : goal.returns-in-Ok-clause-plain
 returns-in-Ok-clause-plain g c =
     let read = c.in-Ok.ensures.reads c.requires.untrimmed c.requires.ready in
-    record { ready = inl (c.in-Ok.ensures.ready c.requires.untrimmed); untrimmed = read.3 ∙ c.requires.untrimmed; flexible = c.in-Ok.ensures.flexible ∙ c.requires.flexible }
+    record {
+      ready = inl (c.in-Ok.ensures.ready c.requires.untrimmed);
+      untrimmed = read.3 ∙ c.requires.untrimmed;
+      flexible = c.in-Ok.ensures.flexible ∙ c.requires.flexible;
+    }
 
 pub returns-in-Ok-clause-reads : goal.returns-in-Ok-clause-reads
 returns-in-Ok-clause-reads g c = λ text before read.
-    read-either g.R.Read.remaining c.args.records.now c.read_byte_record.new.self text before (fields_of c.read_byte_record.new.row) c.in-Ok.found read
+    read-either g.R.Read.remaining c.args.records.now c.read_byte_record.new.self text before (fields_of c.read_byte_record.new.row)
+    c.in-Ok.found read
     (c.in-Ok.ensures.reads c.requires.untrimmed c.requires.ready)
 
 pub fault_of-requires : goal.fault_of-requires
-fault_of-requires g c = plain-fails g.R.Read.remaining c.args.records.now c.read_byte_record.new.self _ c.requires.flexible (c.in-Err.ensures.why c.requires.ready)
+fault_of-requires g c = plain-fails g.R.Read.remaining c.args.records.now c.read_byte_record.new.self _ c.requires.flexible
+    (c.in-Err.ensures.why c.requires.ready)

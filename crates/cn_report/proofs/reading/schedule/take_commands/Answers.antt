@@ -22,8 +22,10 @@ returns-in-Err-take_command g c = λ text read.
     elim (c.in-Err-take_command.ensures.refused text before now) [
       | inl w ↦
           let (fields, next, e) = w in
-          rw (← size) (stop_at header_cause record_cause IsOfReading g.R.Read.remaining c.take_command.new.records text before fields c.in-Err-take_command.cause t.clean next (rw (← size) at e))
-      | inr w ↦ rw (← size) (stop-before header_cause record_cause IsOfReading g.R.Read.remaining c.loop-at.records text before c.in-Err-take_command.cause t.clean now w)
+          rw (← size) (stop_at header_cause record_cause IsOfReading g.R.Read.remaining c.take_command.new.records text before fields
+          c.in-Err-take_command.cause t.clean next (rw (← size) at e))
+      | inr w ↦ rw (← size) (stop-before header_cause record_cause IsOfReading g.R.Read.remaining c.loop-at.records text before
+          c.in-Err-take_command.cause t.clean now w)
     ]
 
 pub returns-in_default-taken : goal.returns-in_default-taken
@@ -34,7 +36,8 @@ returns-in_default-taken g c = λ text read.
 pub returns-then-is_err : goal.returns-then-is_err
 returns-then-is_err g c = λ text read.
     let (before, now, size, t) = c.loop-at.invariant.taken text read in
-    rw (← size) (stop-before header_cause record_cause IsOfReading g.R.Read.remaining c.loop-at.records text before Memory t.clean now (inr refl))
+    rw (← size) (stop-before header_cause record_cause IsOfReading g.R.Read.remaining c.loop-at.records text before Memory t.clean now
+    (inr refl))
 
 pub loop-at-preserved : goal.loop-at-preserved
 loop-at-preserved g c =

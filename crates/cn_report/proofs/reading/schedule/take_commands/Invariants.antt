@@ -8,5 +8,6 @@ invariant-loop-at g l = record {
   few : vec_len l.commands ≤ MOST_RECORDS;
   plain : IsPlain l.records;
   taken : (text : List ℕ) → HasRead g.R.Read.remaining l.fn.records text []
-      → (before : List Record) × HasRead g.R.Read.remaining l.records text before × (length before ≡ l.at) × AreTaken before l.commands.items;
+      → (before : List Record) × HasRead g.R.Read.remaining l.records text before × (length before ≡ l.at)
+      × AreTaken before l.commands.items;
 }

@@ -7,12 +7,15 @@ use Rattle.cn_report.proofs.writing.events.send_refused.Goals as goal
 
 pub returns-in-NoSuchEntry : goal.returns-in-NoSuchEntry
 unfolding enter_line
-returns-in-NoSuchEntry g c = put-same (ap (λ (f : EnterFault). enter_line c.args.client c.args.entry (EnterRefused f)) (sym c.in-NoSuchEntry.is)) c.send_numbered.ensures
+returns-in-NoSuchEntry g c = put-same (ap (λ (f : EnterFault). enter_line c.args.client c.args.entry (EnterRefused f))
+    (sym c.in-NoSuchEntry.is)) c.send_numbered.ensures
 
 pub returns-in-AlreadyIn : goal.returns-in-AlreadyIn
 unfolding enter_line
-returns-in-AlreadyIn g c = put-same (ap (λ (f : EnterFault). enter_line c.args.client c.args.entry (EnterRefused f)) (sym c.in-AlreadyIn.is)) c.send_numbered-in-AlreadyIn.ensures
+returns-in-AlreadyIn g c = put-same (ap (λ (f : EnterFault). enter_line c.args.client c.args.entry (EnterRefused f))
+    (sym c.in-AlreadyIn.is)) c.send_numbered-in-AlreadyIn.ensures
 
 pub returns-in-EpochFull : goal.returns-in-EpochFull
 unfolding enter_line
-returns-in-EpochFull g c = put-same (ap (λ (f : EnterFault). enter_line c.args.client c.args.entry (EnterRefused f)) (sym c.in-EpochFull.is)) c.send_numbered-in-EpochFull.ensures
+returns-in-EpochFull g c = put-same (ap (λ (f : EnterFault). enter_line c.args.client c.args.entry (EnterRefused f))
+    (sym c.in-EpochFull.is)) c.send_numbered-in-EpochFull.ensures

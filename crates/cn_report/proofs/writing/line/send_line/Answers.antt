@@ -14,4 +14,5 @@ pub returns : goal.returns
 returns g c =
     let made = c.make_line-start in
     let rest = drop made.result made.new.line in
-    put-same (take_all (64 - made.result) rest (omega (arith, made.auto.line, length-drop made.result made.new.line)) ∙ made.ensures.written) c.put.ensures
+    put-same (take_all (64 - made.result) rest (omega (arith, made.auto.line, length-drop made.result made.new.line))
+    ∙ made.ensures.written) c.put.ensures

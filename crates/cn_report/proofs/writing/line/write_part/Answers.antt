@@ -16,7 +16,17 @@ copy_from_slice-requires c =
     let w = c.write_digits-middle in
     let start = w.result - length c.args.word.now in
     let fits = short c.args.number (omega arith) in
-    omega (arith, c.requires.room, c.requires.within, fits, w.ensures.start, w.auto.buf, c.as_bytes.ensures.len, length-take (w.result - start) (drop start w.new.buf), length-drop start w.new.buf)
+    omega (
+      arith,
+      c.requires.room,
+      c.requires.within,
+      fits,
+      w.ensures.start,
+      w.auto.buf,
+      c.as_bytes.ensures.len,
+      length-take (w.result - start) (drop start w.new.buf),
+      length-drop start w.new.buf,
+    )
 
 pub returns-clause-start : goal.returns-clause-start
 returns-clause-start c = omega (arith, c.requires.room, short c.args.number (omega arith), c.write_digits-middle.ensures.start)

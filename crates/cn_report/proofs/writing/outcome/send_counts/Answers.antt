@@ -8,8 +8,10 @@ loop-exit-init g c = put-none
 
 pub loop-exit-preserved : goal.loop-exit-preserved
 loop-exit-preserved g c =
-    put-line (λ exit. exit_line exit (slice_index (shares_after c.args.before c.args.clients c.args.width) exit)) c.loop-exit.exit c.loop-exit.invariant
+    put-line (λ exit. exit_line exit (slice_index (shares_after c.args.before c.args.clients c.args.width) exit)) c.loop-exit.exit
+    c.loop-exit.invariant
     (rw c.count_after-count.ensures at c.send_count.ensures)
 
 pub returns : goal.returns
-returns g c = put-lines (λ exit. exit_line exit (slice_index (shares_after c.args.before c.args.clients c.args.width) exit)) c.loop-exit.exit c.args.width (omega arith) c.loop-exit.invariant
+returns g c = put-lines (λ exit. exit_line exit (slice_index (shares_after c.args.before c.args.clients c.args.width) exit))
+    c.loop-exit.exit c.args.width (omega arith) c.loop-exit.invariant

@@ -7,7 +7,9 @@ pub loop-name-init : goal.loop-name-init
 loop-name-init g c = put-none
 
 pub loop-name-preserved : goal.loop-name-preserved
-loop-name-preserved g c = put-line (λ name. name_line name (slice_index c.args.holders.now name)) c.loop-name.name c.loop-name.invariant c.send_holder.ensures
+loop-name-preserved g c = put-line (λ name. name_line name (slice_index c.args.holders.now name)) c.loop-name.name c.loop-name.invariant
+    c.send_holder.ensures
 
 pub returns : goal.returns
-returns g c = put-lines (λ name. name_line name (slice_index c.args.holders.now name)) c.loop-name.name (length c.args.holders.now) (omega arith) c.loop-name.invariant
+returns g c = put-lines (λ name. name_line name (slice_index c.args.holders.now name)) c.loop-name.name (length c.args.holders.now)
+    (omega arith) c.loop-name.invariant

@@ -15,17 +15,20 @@ bounds-commands-position g c = omega (arith, AllZip-long Fits c.args.commands.no
 pub send_answer-requires-clause-fits : goal.send_answer-requires-clause-fits
 send_answer-requires-clause-fits g c =
     let answer = c.index-answers-position in
-    rw answer.is (zipped_at Fits c.args.commands.now c.args.answers.now c.loop-position.position (Enter 0 0) answer.result c.requires.fit c.loop-position-test.true)
+    rw answer.is (zipped_at Fits c.args.commands.now c.args.answers.now c.loop-position.position (Enter 0 0) answer.result c.requires.fit
+    c.loop-position-test.true)
 
 pub send_answer-requires-clause-memory : goal.send_answer-requires-clause-memory
 send_answer-requires-clause-memory g c =
     let answer = c.index-answers-position in
-    rw answer.is (All-get_or HadMemory c.args.answers.now c.loop-position.position answer.result c.loop-position-test.true c.requires.memory)
+    rw answer.is (All-get_or HadMemory c.args.answers.now c.loop-position.position answer.result c.loop-position-test.true
+    c.requires.memory)
 
 pub send_answer-requires-clause-whole : goal.send_answer-requires-clause-whole
 send_answer-requires-clause-whole g c =
     let answer = c.index-answers-position in
-    rw answer.is (All-get_or (IsWholeKept c.args.width) c.args.answers.now c.loop-position.position answer.result c.loop-position-test.true c.requires.whole)
+    rw answer.is (All-get_or (IsWholeKept c.args.width) c.args.answers.now c.loop-position.position answer.result c.loop-position-test.true
+    c.requires.whole)
 
 pub loop-position-preserved : goal.loop-position-preserved
 loop-position-preserved g c =
@@ -38,8 +41,10 @@ loop-position-preserved g c =
     let far : i < length commands = omega (arith, many, c.loop-position-test.true) in
     let long = length-zip commands answers in
     let at : (command, answer.result) ≡ get_or (zip commands answers) i (Enter 0 0, answer.result) =
-    ap (λ (a : Answer). (command, a)) answer.is ∙ sym (get_or-zip commands answers i (Enter 0 0, answer.result) far c.loop-position-test.true) in
-    put-next (λ (command, answer). kept_line c.args.width command answer) (zip commands answers) i (Enter 0 0, answer.result) (command, answer.result) (omega (arith, long, many, c.loop-position-test.true)) at
+    ap (λ (a : Answer). (command, a)) answer.is
+    ∙ sym (get_or-zip commands answers i (Enter 0 0, answer.result) far c.loop-position-test.true) in
+    put-next (λ (command, answer). kept_line c.args.width command answer) (zip commands answers) i (Enter 0 0, answer.result)
+    (command, answer.result) (omega (arith, long, many, c.loop-position-test.true)) at
     c.loop-position.invariant c.send_answer.ensures
 
 pub returns : goal.returns
@@ -48,8 +53,10 @@ returns g c =
     let answers = c.args.answers.now in
     let many = AllZip-long Fits commands answers c.requires.fit in
     let long = length-zip commands answers in
-    put-last (λ (command, answer). kept_line c.args.width command answer) (zip commands answers) c.loop-position.position (omega (arith, long, many, c.loop-position-test.false)) c.loop-position.invariant
+    put-last (λ (command, answer). kept_line c.args.width command answer) (zip commands answers) c.loop-position.position
+    (omega (arith, long, many, c.loop-position-test.false)) c.loop-position.invariant
 
 pub returns-then-has_failed : goal.returns-then-has_failed
 returns-then-has_failed g c =
-    put-cut (λ (command, answer). kept_line c.args.width command answer) (zip c.args.commands.now c.args.answers.now) c.loop-position.position (sym c.has_failed.ensures ∙ c.if-has_failed.true) c.loop-position.invariant
+    put-cut (λ (command, answer). kept_line c.args.width command answer) (zip c.args.commands.now c.args.answers.now)
+    c.loop-position.position (sym c.has_failed.ensures ∙ c.if-has_failed.true) c.loop-position.invariant

@@ -14,6 +14,7 @@ pub returns : goal.returns
 returns g c answers same =
     let network = c.args.network.now in
     let last = c.args.last in
-    let lines = put-same (sym (lines-kept network.table.width c.args.commands.now answers c.args.kept.now same)) (rw c.width.ensures.value at c.send_answers.ensures) in
+    let lines = put-same (sym (lines-kept network.table.width c.args.commands.now answers c.args.kept.now same))
+    (rw c.width.ensures.value at c.send_answers.ensures) in
     c.finish.ensures c.args.writer.now (replay_text network c.args.commands.now answers last.number last.entered last.inside)
     (put-all c.requires.fresh (put-then (put-then c.send_heading.ensures lines) c.send_end.ensures))

@@ -13,4 +13,5 @@ returns g c records are =
     let (many, clients) = as-many-records c.args.carries network.table.width 0 c.args.epochs.now records c.args.holders.now are in
     let end = put-same (sym (ap₂ (λ n k. report_end n k) many (clients ∙ c.requires.as_many))) c.send_end.ensures in
     c.finish.ensures c.args.writer.now (report_text network records)
-    (put-all c.requires.fresh (put-then (put-then c.send_heading.ensures ((rw c.width.ensures.value at c.send_epochs.ensures) records are)) end))
+    (put-all c.requires.fresh (put-then (put-then c.send_heading.ensures ((rw c.width.ensures.value at c.send_epochs.ensures) records are))
+    end))

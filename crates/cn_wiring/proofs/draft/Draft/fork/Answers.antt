@@ -15,25 +15,29 @@ index_mut-requires c =
 
 pub invariant_of-self-2 : goal.invariant_of-self-2
 invariant_of-self-2 c =
-    let items : c.push-2.new.self.items ≡ (set c.self.inside.ends.items c.args.wire (Some c.self.inside.balancers) ++ None ∷ []) ++ None ∷ [] = search rules in
+    let items : c.push-2.new.self.items ≡ (set c.self.inside.ends.items c.args.wire (Some c.self.inside.balancers) ++ None ∷ []) ++ None
+    ∷ [] = search rules in
     let both : AllLoose (plan_of c.self.inside) (c.args.wire ∷ []) = rw (← c.self.view_is) at c.requires.one in
     let room : c.self.inside.balancers < MOST_BALANCERS = rw (← c.self.view_is) at c.requires.room in
     rw items (orderly-grown (plan_of c.self.inside) (c.args.wire ∷ []) c.self.invariant both room (omega arith, omega arith))
 
 pub returns-clause-built : goal.returns-clause-built
 returns-clause-built c =
-    let items : c.push-2.new.self.items ≡ (set c.self.inside.ends.items c.args.wire (Some c.self.inside.balancers) ++ None ∷ []) ++ None ∷ [] = search rules in
+    let items : c.push-2.new.self.items ≡ (set c.self.inside.ends.items c.args.wire (Some c.self.inside.balancers) ++ None ∷ []) ++ None
+    ∷ [] = search rules in
     let both : AllLoose (plan_of c.self.inside) (c.args.wire ∷ []) = rw (← c.self.view_is) at c.requires.one in
     rw (items, ← c.self.view_is) (builds-grown (plan_of c.self.inside) (c.args.wire ∷ []) c.self.invariant both)
 
 pub returns-clause-halves : goal.returns-clause-halves
 returns-clause-halves c =
-    let items : c.push-2.new.self.items ≡ (set c.self.inside.ends.items c.args.wire (Some c.self.inside.balancers) ++ None ∷ []) ++ None ∷ [] = search rules in
+    let items : c.push-2.new.self.items ≡ (set c.self.inside.ends.items c.args.wire (Some c.self.inside.balancers) ++ None ∷ []) ++ None
+    ∷ [] = search rules in
     let both : AllLoose (plan_of c.self.inside) (c.args.wire ∷ []) = rw (← c.self.view_is) at c.requires.one in
     rw items (halves-forked (plan_of c.self.inside) c.args.wire c.self.invariant both)
 
 pub returns-clause-flows : goal.returns-clause-flows
 returns-clause-flows c =
-    let items : c.push-2.new.self.items ≡ (set c.self.inside.ends.items c.args.wire (Some c.self.inside.balancers) ++ None ∷ []) ++ None ∷ [] = search rules in
+    let items : c.push-2.new.self.items ≡ (set c.self.inside.ends.items c.args.wire (Some c.self.inside.balancers) ++ None ∷ []) ++ None
+    ∷ [] = search rules in
     let both : AllLoose (plan_of c.self.inside) (c.args.wire ∷ []) = rw (← c.self.view_is) at c.requires.one in
     rw (items, ← c.self.view_is) (flow-unforked (plan_of c.self.inside) c.args.wire c.self.invariant both)

@@ -22,25 +22,29 @@ index_mut-requires-2 c =
 
 pub invariant_of-self-2 : goal.invariant_of-self-2
 invariant_of-self-2 c =
-    let items : c.push-2.new.self.items ≡ (set (set c.self.inside.ends.items c.args.u (Some c.self.inside.balancers)) c.args.v (Some c.self.inside.balancers) ++ None ∷ []) ++ None ∷ [] = search rules in
+    let items : c.push-2.new.self.items ≡ (set (set c.self.inside.ends.items c.args.u (Some c.self.inside.balancers)) c.args.v
+    (Some c.self.inside.balancers) ++ None ∷ []) ++ None ∷ [] = search rules in
     let both : AllLoose (plan_of c.self.inside) (c.args.u ∷ c.args.v ∷ []) = rw (← c.self.view_is) at c.requires.both in
     let room : c.self.inside.balancers < MOST_BALANCERS = rw (← c.self.view_is) at c.requires.room in
     rw items (orderly-grown (plan_of c.self.inside) (c.args.u ∷ c.args.v ∷ []) c.self.invariant both room (omega arith, omega arith))
 
 pub returns-clause-built : goal.returns-clause-built
 returns-clause-built c =
-    let items : c.push-2.new.self.items ≡ (set (set c.self.inside.ends.items c.args.u (Some c.self.inside.balancers)) c.args.v (Some c.self.inside.balancers) ++ None ∷ []) ++ None ∷ [] = search rules in
+    let items : c.push-2.new.self.items ≡ (set (set c.self.inside.ends.items c.args.u (Some c.self.inside.balancers)) c.args.v
+    (Some c.self.inside.balancers) ++ None ∷ []) ++ None ∷ [] = search rules in
     let both : AllLoose (plan_of c.self.inside) (c.args.u ∷ c.args.v ∷ []) = rw (← c.self.view_is) at c.requires.both in
     rw (items, ← c.self.view_is) (builds-grown (plan_of c.self.inside) (c.args.u ∷ c.args.v ∷ []) c.self.invariant both)
 
 pub returns-clause-halves : goal.returns-clause-halves
 returns-clause-halves c =
-    let items : c.push-2.new.self.items ≡ (set (set c.self.inside.ends.items c.args.u (Some c.self.inside.balancers)) c.args.v (Some c.self.inside.balancers) ++ None ∷ []) ++ None ∷ [] = search rules in
+    let items : c.push-2.new.self.items ≡ (set (set c.self.inside.ends.items c.args.u (Some c.self.inside.balancers)) c.args.v
+    (Some c.self.inside.balancers) ++ None ∷ []) ++ None ∷ [] = search rules in
     let both : AllLoose (plan_of c.self.inside) (c.args.u ∷ c.args.v ∷ []) = rw (← c.self.view_is) at c.requires.both in
     rw items (halves-joined (plan_of c.self.inside) c.args.u c.args.v c.self.invariant both)
 
 pub returns-clause-flows : goal.returns-clause-flows
 returns-clause-flows c =
-    let items : c.push-2.new.self.items ≡ (set (set c.self.inside.ends.items c.args.u (Some c.self.inside.balancers)) c.args.v (Some c.self.inside.balancers) ++ None ∷ []) ++ None ∷ [] = search rules in
+    let items : c.push-2.new.self.items ≡ (set (set c.self.inside.ends.items c.args.u (Some c.self.inside.balancers)) c.args.v
+    (Some c.self.inside.balancers) ++ None ∷ []) ++ None ∷ [] = search rules in
     let both : AllLoose (plan_of c.self.inside) (c.args.u ∷ c.args.v ∷ []) = rw (← c.self.view_is) at c.requires.both in
     rw (items, ← c.self.view_is) (flow-unjoined (plan_of c.self.inside) c.args.u c.args.v c.self.invariant both)

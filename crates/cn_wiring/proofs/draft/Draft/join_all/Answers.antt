@@ -10,8 +10,10 @@ join-requires-clause-both c = layer-next (omega arith) (let e = c.requires.same 
 
 pub loop-i-preserved : goal.loop-i-preserved
 loop-i-preserved c =
-    let items : c.push-in-loop-i.new.self.items ≡ c.loop-i.outs.items ++ c.in_ok-first.first ∷ c.in_ok-first.second ∷ [] = search (rules, append_assoc) in
-    rw items (layer-more (omega arith) (let e = c.requires.same in omega arith) c.requires.loose c.loop-i.invariant c.in_ok-first.ensures.built c.in_ok-first.ensures.wires c.in_ok-first.ensures.plan c.in_ok-first.ensures.halves)
+    let items : c.push-in-loop-i.new.self.items ≡ c.loop-i.outs.items ++ c.in_ok-first.first ∷ c.in_ok-first.second ∷ [] =
+    search (rules, append_assoc) in
+    rw items (layer-more (omega arith) (let e = c.requires.same in omega arith) c.requires.loose c.loop-i.invariant
+    c.in_ok-first.ensures.built c.in_ok-first.ensures.wires c.in_ok-first.ensures.plan c.in_ok-first.ensures.halves)
 
 pub returns-clause-built : goal.returns-clause-built
 returns-clause-built c = (layer-all (omega arith) c.requires.same c.loop-i.invariant).0

@@ -18,7 +18,8 @@ spare c = ap (λ (v : Yard). v.spare) c.self.view_is ∙ c.in_ok-reserve.ensures
 kept : (c : After-index) → (order : ℕ → List ℕ) × Keeps c.self.inside order
 kept c = kept-count c.self.inside c.self.invariant c.self.inside.wires (omega (arith, spare c))
 
-free : (c : After-index) → (c.index.result.now.last < length c.self.inside.records.items) × (wire_of c.self.inside.records.items c.index.result.now.last ≡ c.self.inside.wires)
+free : (c : After-index) → (c.index.result.now.last < length c.self.inside.records.items)
+    × (wire_of c.self.inside.records.items c.index.result.now.last ≡ c.self.inside.wires)
 free c =
     let (order, k) = kept c in
     let one = spare c in
@@ -50,8 +51,10 @@ moved-yard c = after c.self.inside c.relink.new.records c.relink.new.lines c.rel
 
 relinked : (c : After-relink) → Relinked c.self.inside (moved-yard c) c.index.result.now.last c.args.wire
 relinked c =
-    relinked-by c.self.inside c.deref_mut.result.now c.deref_mut-2.result.now c.deref_mut-3.result.now c.relink.new.records c.relink.new.lines c.relink.new.marks c.index.result.now.last c.index.result.now.last c.args.wire refl
-    c.deref_mut.ensures.value c.deref_mut-2.ensures.value c.deref_mut-3.ensures.value c.deref_mut.ensures.len c.deref_mut-2.ensures.len c.deref_mut-3.ensures.len
+    relinked-by c.self.inside c.deref_mut.result.now c.deref_mut-2.result.now c.deref_mut-3.result.now c.relink.new.records
+    c.relink.new.lines c.relink.new.marks c.index.result.now.last c.index.result.now.last c.args.wire refl
+    c.deref_mut.ensures.value c.deref_mut-2.ensures.value c.deref_mut-3.ensures.value c.deref_mut.ensures.len c.deref_mut-2.ensures.len
+    c.deref_mut-3.ensures.len
     c.relink.ensures.kept c.relink.ensures.lined c.relink.ensures.words
 
 pub set_client-requires : goal.set_client-requires
@@ -66,9 +69,11 @@ set_client-requires c =
 abbrev named-yard : After-set_client → Inside
 named-yard c = with_records (after c.self.inside c.relink.new.records c.relink.new.lines c.relink.new.marks) c.set_client.new.records
 
-renamed : (c : After-set_client) → Renamed (after c.self.inside c.relink.new.records c.relink.new.lines c.relink.new.marks) (named-yard c) c.index.result.now.last c.args.client
+renamed : (c : After-set_client) → Renamed (after c.self.inside c.relink.new.records c.relink.new.lines c.relink.new.marks) (named-yard c)
+    c.index.result.now.last c.args.client
 renamed c =
-    renamed-by (after c.self.inside c.relink.new.records c.relink.new.lines c.relink.new.marks) c.deref_mut-4.result.now c.set_client.new.records c.index.result.now.last c.args.client
+    renamed-by (after c.self.inside c.relink.new.records c.relink.new.lines c.relink.new.marks) c.deref_mut-4.result.now
+    c.set_client.new.records c.index.result.now.last c.args.client
     c.deref_mut-4.ensures.value c.deref_mut-4.ensures.len c.set_client.ensures
 
 pub invariant_of-self : goal.invariant_of-self
@@ -79,7 +84,8 @@ invariant_of-self c =
     let z = named-yard here.After-set_client in
     let t = c.index.result.now.last in
     let keeps = keeps-relinked c.self.inside m order t c.args.wire k (relinked here.After-relink) in
-    closed z (moved order t c.args.wire) (keeps-renamed m z (moved order t c.args.wire) t c.args.client keeps (renamed here.After-set_client))
+    closed z (moved order t c.args.wire) (keeps-renamed m z (moved order t c.args.wire) t c.args.client keeps
+    (renamed here.After-set_client))
 
 pub returns-clause-ok : goal.returns-clause-ok
 returns-clause-ok c =
@@ -88,5 +94,6 @@ returns-clause-ok c =
     let m = moved-yard here.After-relink in
     let z = named-yard here.After-set_client in
     rw c.of.ensures
-    (admits-renamed c.args.self.now c.self.inside m z order c.index.result.now.last c.args.wire c.args.client k (lists here.After-index) (spare here.After-index)
+    (admits-renamed c.args.self.now c.self.inside m z order c.index.result.now.last c.args.wire c.args.client k (lists here.After-index)
+    (spare here.After-index)
     (relinked here.After-relink) (renamed here.After-set_client) (free here.After-index).1 (within here.After-index))

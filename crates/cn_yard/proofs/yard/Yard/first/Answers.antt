@@ -30,7 +30,8 @@ returns-then-count_on-eq0 c =
     let here = (goal.at.returns-then-count_on-eq0 c).After-count_on in
     let y = c.self.inside in
     let none : on (lists_of y) c.args.wire ≡ [] =
-    nil_from_length (on (lists_of y) c.args.wire) (count-all y c.self.invariant c.args.wire (within here) ∙ sym (counted here) ∙ c.if-count_on-eq0.true) in
+    nil_from_length (on (lists_of y) c.args.wire)
+    (count-all y c.self.invariant c.args.wire (within here) ∙ sym (counted here) ∙ c.if-count_on-eq0.true) in
     rw (← c.self.view_is) (sym (ap first_of none))
 
 pub returns : goal.returns
@@ -42,4 +43,5 @@ returns c =
     let some : c.index.result.now.count ≡ c.count_on.result = read ∙ sym (counted here) in
     let zero = c.if-count_on-eq0.false in
     let f : eqb c.index.result.now.count 0 ≡ false = grind (arith, nat_tests) in
-    rw (← c.self.view_is, c.of.ensures) (sym (first-read y order k c.args.wire c.index.result.now (within here) c.index.ensures ∙ rw f refl))
+    rw (← c.self.view_is, c.of.ensures) (sym
+    (first-read y order k c.args.wire c.index.result.now (within here) c.index.ensures ∙ rw f refl))

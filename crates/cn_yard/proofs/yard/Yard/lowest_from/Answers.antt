@@ -6,7 +6,8 @@ use Rattle.cn_yard.proofs.Bare.{kept-some, wires-are}
 use Rattle.cn_yard.proofs.yard.Yard.lowest_from.Goals as goal
 
 -- as the yard's lists say it
-below : (from : ℕ) (y : Inside) (z : Yard) → yard_of y ≡ z → ((u : ℕ) → u < from → on z.lists u ≡ []) → (u : ℕ) → u < from → on (lists_of y) u ≡ []
+below : (from : ℕ) (y : Inside) (z : Yard) → yard_of y ≡ z → ((u : ℕ) → u < from → on z.lists u ≡ []) → (u : ℕ) → u < from
+    → on (lists_of y) u ≡ []
 below from y z is none = subst (λ (x : Yard). (u : ℕ) → u < from → on x.lists u ≡ []) (sym is) none
 
 -- there is a line
@@ -24,7 +25,8 @@ returns-then-is_empty-clause-none c e wire =
     rw (← c.self.view_is) (nobody-all y c.self.invariant (grind (arith, nat_tests)) wire)
 
 pub least_from-requires-clause-length : goal.least_from-requires-clause-length
-least_from-requires-clause-length c = let (order, k) = kept c.self.inside c.self.invariant c.is_empty.result c.is_empty.ensures c.if-is_empty.false in rw c.deref.ensures.value k.lined.short
+least_from-requires-clause-length c = let (order, k) =
+    kept c.self.inside c.self.invariant c.is_empty.result c.is_empty.ensures c.if-is_empty.false in rw c.deref.ensures.value k.lined.short
 
 pub least_from-requires-clause-word : goal.least_from-requires-clause-word
 least_from-requires-clause-word c =
@@ -37,15 +39,19 @@ pub returns-in-Some-clause-some : goal.returns-in-Some-clause-some
 returns-in-Some-clause-some c =
     let (order, k) = kept c.self.inside c.self.invariant c.is_empty.result c.is_empty.ensures c.if-is_empty.false in
     let (from, one, lower) = rw c.deref.ensures.value at c.in-Some.ensures in
-    rw (← c.self.view_is) (lowest-read c.self.inside order k c.args.from (c.args.from / 64) (omega arith) (below c.args.from c.self.inside c.args.self.now c.self.view_is c.requires.none) c.in-Some.wire c.if-wire-self.true one lower)
+    rw (← c.self.view_is) (lowest-read c.self.inside order k c.args.from (c.args.from / 64) (omega arith)
+    (below c.args.from c.self.inside c.args.self.now c.self.view_is c.requires.none) c.in-Some.wire c.if-wire-self.true one lower)
 
 pub returns-in_default-clause-none : goal.returns-in_default-clause-none
 returns-in_default-clause-none c e wire =
     let (order, k) = kept c.self.inside c.self.invariant c.is_empty.result c.is_empty.ensures c.if-is_empty.false in
     let (from, one, lower) = rw c.deref.ensures.value at c.in-Some.ensures in
-    rw (← c.self.view_is) (none-read c.self.inside order k c.args.from (c.args.from / 64) (omega arith) (below c.args.from c.self.inside c.args.self.now c.self.view_is c.requires.none) c.in-Some.wire c.if-wire-self.false lower wire)
+    rw (← c.self.view_is) (none-read c.self.inside order k c.args.from (c.args.from / 64) (omega arith)
+    (below c.args.from c.self.inside c.args.self.now c.self.view_is c.requires.none) c.in-Some.wire c.if-wire-self.false lower wire)
 
 pub returns-in_default-2-clause-none : goal.returns-in_default-2-clause-none
 returns-in_default-2-clause-none c e wire =
     let (order, k) = kept c.self.inside c.self.invariant c.is_empty.result c.is_empty.ensures c.if-is_empty.false in
-    rw (← c.self.view_is) (nobody-read c.self.inside order k c.args.from (c.args.from / 64) (omega arith) (below c.args.from c.self.inside c.args.self.now c.self.view_is c.requires.none) (rw c.deref.ensures.value at c.in_default.ensures) wire)
+    rw (← c.self.view_is) (nobody-read c.self.inside order k c.args.from (c.args.from / 64) (omega arith)
+    (below c.args.from c.self.inside c.args.self.now c.self.view_is c.requires.none) (rw c.deref.ensures.value at c.in_default.ensures)
+    wire)

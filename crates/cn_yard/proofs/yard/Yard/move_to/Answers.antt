@@ -27,8 +27,10 @@ relink-requires-clause-lined c =
 relinked : (c : After-relink)
     → Relinked c.self.inside (after c.self.inside c.relink.new.records c.relink.new.lines c.relink.new.marks) c.args.token c.args.wire
 relinked c =
-    relinked-by c.self.inside c.deref_mut.result.now c.deref_mut-2.result.now c.deref_mut-3.result.now c.relink.new.records c.relink.new.lines c.relink.new.marks c.number.result c.args.token c.args.wire c.number.ensures
-    c.deref_mut.ensures.value c.deref_mut-2.ensures.value c.deref_mut-3.ensures.value c.deref_mut.ensures.len c.deref_mut-2.ensures.len c.deref_mut-3.ensures.len
+    relinked-by c.self.inside c.deref_mut.result.now c.deref_mut-2.result.now c.deref_mut-3.result.now c.relink.new.records
+    c.relink.new.lines c.relink.new.marks c.number.result c.args.token c.args.wire c.number.ensures
+    c.deref_mut.ensures.value c.deref_mut-2.ensures.value c.deref_mut-3.ensures.value c.deref_mut.ensures.len c.deref_mut-2.ensures.len
+    c.deref_mut-3.ensures.len
     c.relink.ensures.kept c.relink.ensures.lined c.relink.ensures.words
 
 pub invariant_of-self : goal.invariant_of-self
@@ -36,7 +38,8 @@ invariant_of-self c =
     let (order, k) = kept-live c.self.inside c.args.token c.self.invariant (rw (← c.self.view_is) at c.requires.live) in
     let y = c.self.inside in
     let z = after y c.relink.new.records c.relink.new.lines c.relink.new.marks in
-    closed z (moved order c.args.token c.args.wire) (keeps-relinked y z order c.args.token c.args.wire k (relinked (goal.at.invariant_of-self c).After-relink))
+    closed z (moved order c.args.token c.args.wire)
+    (keeps-relinked y z order c.args.token c.args.wire k (relinked (goal.at.invariant_of-self c).After-relink))
 
 pub returns : goal.returns
 returns c from client stands =
@@ -45,4 +48,5 @@ returns c from client stands =
     let z = after y c.relink.new.records c.relink.new.lines c.relink.new.marks in
     let h : c.args.wire < y.wires = rw (← c.self.view_is, wires-are y) at c.requires.wire in
     rw (← c.self.view_is)
-    (moves-relinked y z order c.args.token c.args.wire from client k (relinked (goal.at.returns c).After-relink) h (rw (← c.self.view_is) at stands))
+    (moves-relinked y z order c.args.token c.args.wire from client k (relinked (goal.at.returns c).After-relink) h
+    (rw (← c.self.view_is) at stands))

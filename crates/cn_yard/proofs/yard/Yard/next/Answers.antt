@@ -18,14 +18,16 @@ index-requires c =
     let y = c.self.inside in
     let counted : vec_len y.lines ≡ length y.lines.items = search rules in
     let as_many = k.wires in
-    let h = wire-read y order k c.args.token c.index-record.result.now (rw (← c.self.view_is) at c.requires) (rw c.number.ensures at c.index-record.ensures) in
+    let h = wire-read y order k c.args.token c.index-record.result.now (rw (← c.self.view_is) at c.requires)
+    (rw c.number.ensures at c.index-record.ensures) in
     omega arith
 
 pub returns-then-index-number : goal.returns-then-index-number
 returns-then-index-number c wire client stands =
     let (order, k) = kept-live c.self.inside c.args.token c.self.invariant (rw (← c.self.view_is) at c.requires) in
     let y = c.self.inside in
-    let seen = next-read y order k c.args.token c.index-record.result.now c.index.result.now wire client (rw (← c.self.view_is) at c.requires) (rw c.number.ensures at c.index-record.ensures) c.index.ensures
+    let seen = next-read y order k c.args.token c.index-record.result.now c.index.result.now wire client
+    (rw (← c.self.view_is) at c.requires) (rw c.number.ensures at c.index-record.ensures) c.index.ensures
     (rw (← c.self.view_is) at stands) in
     let test = c.if-index-number.true in
     let number = c.number-2.ensures in
@@ -36,7 +38,8 @@ pub returns : goal.returns
 returns c wire client stands =
     let (order, k) = kept-live c.self.inside c.args.token c.self.invariant (rw (← c.self.view_is) at c.requires) in
     let y = c.self.inside in
-    let seen = next-read y order k c.args.token c.index-record.result.now c.index.result.now wire client (rw (← c.self.view_is) at c.requires) (rw c.number.ensures at c.index-record.ensures) c.index.ensures
+    let seen = next-read y order k c.args.token c.index-record.result.now c.index.result.now wire client
+    (rw (← c.self.view_is) at c.requires) (rw c.number.ensures at c.index-record.ensures) c.index.ensures
     (rw (← c.self.view_is) at stands) in
     let test = c.if-index-number.false in
     let number = c.number-2.ensures in

@@ -12,7 +12,8 @@ use Rattle.cn_yard.proofs.yard.Yard.release.Goals as goal
 pub relink-requires-clause-number : goal.relink-requires-clause-number
 relink-requires-clause-number c =
     let (order, k) = kept-live c.self.inside c.args.token c.self.invariant (rw (← c.self.view_is) at c.requires) in
-    rw (c.number-number.ensures, c.deref_mut.ensures.value) (live c.self.inside order k c.args.token (rw (← c.self.view_is) at c.requires)).0
+    rw (c.number-number.ensures, c.deref_mut.ensures.value)
+    (live c.self.inside order k c.args.token (rw (← c.self.view_is) at c.requires)).0
 
 pub relink-requires-clause-wire : goal.relink-requires-clause-wire
 relink-requires-clause-wire c =
@@ -32,10 +33,13 @@ index-requires c =
     rw c.number-number.ensures (rw (← counted) at (live y order k c.args.token (rw (← c.self.view_is) at c.requires)).0)
 
 relinked : (c : After-relink)
-    → Relinked c.self.inside (after c.self.inside c.relink.new.records c.relink.new.lines c.relink.new.marks) c.args.token c.self.inside.wires
+    → Relinked c.self.inside (after c.self.inside c.relink.new.records c.relink.new.lines c.relink.new.marks) c.args.token
+    c.self.inside.wires
 relinked c =
-    relinked-by c.self.inside c.deref_mut.result.now c.deref_mut-2.result.now c.deref_mut-3.result.now c.relink.new.records c.relink.new.lines c.relink.new.marks c.number-number.result c.args.token c.self.inside.wires c.number-number.ensures
-    c.deref_mut.ensures.value c.deref_mut-2.ensures.value c.deref_mut-3.ensures.value c.deref_mut.ensures.len c.deref_mut-2.ensures.len c.deref_mut-3.ensures.len
+    relinked-by c.self.inside c.deref_mut.result.now c.deref_mut-2.result.now c.deref_mut-3.result.now c.relink.new.records
+    c.relink.new.lines c.relink.new.marks c.number-number.result c.args.token c.self.inside.wires c.number-number.ensures
+    c.deref_mut.ensures.value c.deref_mut-2.ensures.value c.deref_mut-3.ensures.value c.deref_mut.ensures.len c.deref_mut-2.ensures.len
+    c.deref_mut-3.ensures.len
     c.relink.ensures.kept c.relink.ensures.lined c.relink.ensures.words
 
 pub invariant_of-self : goal.invariant_of-self
@@ -53,11 +57,14 @@ returns-clause-client c =
     let stands = rw (← c.self.view_is) at c.requires in
     let within = (live y order k c.args.token stands).0 in
     let len : length c.relink.new.records ≡ length y.records.items = c.relink.ensures.kept.len ∙ ap length c.deref_mut.ensures.value in
-    let left : (with_items y.records c.relink.new.records).items ≡ c.relink.new.records = with_items_is y.records c.relink.new.records (c.relink.ensures.kept.len ∙ c.deref_mut.ensures.len) in
+    let left : (with_items y.records c.relink.new.records).items ≡ c.relink.new.records =
+    with_items_is y.records c.relink.new.records (c.relink.ensures.kept.len ∙ c.deref_mut.ensures.len) in
     let h : c.args.token < length c.relink.new.records = omega arith in
-    let r = get_or_read c.relink.new.records c.args.token c.index.result.now h (rw (left, c.number-number.ensures) at c.index.ensures) no_record in
+    let r = get_or_read c.relink.new.records c.args.token c.index.result.now h (rw (left, c.number-number.ensures) at c.index.ensures)
+    no_record in
     let client : c.index.result.now.client ≡ client_of y.records.items c.args.token =
-    ap (λ (x : Record). x.client) r ∙ c.relink.ensures.kept.client c.args.token ∙ ap (λ rs. client_of rs c.args.token) c.deref_mut.ensures.value in
+    ap (λ (x : Record). x.client) r ∙ c.relink.ensures.kept.client c.args.token
+    ∙ ap (λ rs. client_of rs c.args.token) c.deref_mut.ensures.value in
     (wire_of y.records.items c.args.token, rw (← c.self.view_is, client) (there-live y order k c.args.token stands))
 
 pub returns-clause-released : goal.returns-clause-released

@@ -76,7 +76,8 @@ after c = after-fill (before c) c.fill.new.records c.fill.new.lines c.fill.new.m
 more : (c : After-fill) → Filled (before c) (after c)
 more c =
     filled-by (before c) c.deref_mut.result.now c.deref_mut-2.result.now c.fill.new.records c.fill.new.lines c.fill.new.marks
-    c.deref_mut.ensures.value c.deref_mut-2.ensures.value c.deref_mut.ensures.len c.deref_mut-2.ensures.len c.fill.ensures.kept c.fill.ensures.lined c.fill.ensures.words
+    c.deref_mut.ensures.value c.deref_mut-2.ensures.value c.deref_mut.ensures.len c.deref_mut-2.ensures.len c.fill.ensures.kept
+    c.fill.ensures.lined c.fill.ensures.words
 
 pub invariant_of-self-2 : goal.invariant_of-self-2
 invariant_of-self-2 c =
@@ -89,13 +90,15 @@ pub returns-clause-lists : goal.returns-clause-lists
 returns-clause-lists c =
     let here = goal.at.returns-clause-lists c in
     let ((order, k), view) = made here.After-deref_mut-2 in
-    filled-lists (before here.After-fill) (after here.After-fill) order k (more here.After-fill) ∙ ap (λ (v : Yard). v.lists) (view ∙ c.self.view_is)
+    filled-lists (before here.After-fill) (after here.After-fill) order k (more here.After-fill)
+    ∙ ap (λ (v : Yard). v.lists) (view ∙ c.self.view_is)
 
 pub returns-clause-tokens : goal.returns-clause-tokens
 returns-clause-tokens c =
     let here = goal.at.returns-clause-tokens c in
     let ((order, k), view) = made here.After-deref_mut-2 in
-    tokens-same (lists_of (before here.After-fill)) (lists_of (after here.After-fill)) (filled-lists (before here.After-fill) (after here.After-fill) order k (more here.After-fill))
+    tokens-same (lists_of (before here.After-fill)) (lists_of (after here.After-fill))
+    (filled-lists (before here.After-fill) (after here.After-fill) order k (more here.After-fill))
     ∙ ap (λ (v : Yard). tokens_in v.lists) (view ∙ c.self.view_is)
 
 pub returns-clause-err : goal.returns-clause-err

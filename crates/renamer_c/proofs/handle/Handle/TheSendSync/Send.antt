@@ -31,7 +31,11 @@ lies R s null_ptr x = tt
 
 held_keyless : (a : Global) (p : Ptr) (x : Option (held.the_row).Denot) → Keyless (holds held.the_row a p x)
 held_keyless a p None = tt
-held_keyless a p (Some x) = (lies held.the_row (held_crosses.the_send _ _ _ lane_crosses.the_send record_crosses.the_send taker_crosses.the_send) p x, frees.frees a (raw (lone (held.the_row).mir)) p)
+held_keyless a p (Some x) = (
+  lies held.the_row
+      (held_crosses.the_send _ _ _ lane_crosses.the_send record_crosses.the_send taker_crosses.the_send) p x,
+  frees.frees a (raw (lone (held.the_row).mir)) p,
+)
 
 pub send : IsSend the_row
 send =

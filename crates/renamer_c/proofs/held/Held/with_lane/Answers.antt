@@ -3,4 +3,10 @@ use Rattle.renamer_c.proofs.held.Held.with_lane.Goals as goal
 
 pub returns-in-Lane : goal.returns-in-Lane
 returns-in-Lane g c =
-    inr (c.in-Lane.lane, c.call.new.arg2, c.in-Lane.is, refl, record { shown = _; shows = refl; left = _; met = c.call.ensures; leaves = refl })
+    inr (
+      c.in-Lane.lane,
+      c.call.new.arg2,
+      c.in-Lane.is,
+      refl,
+      record { shown = _; shows = refl; left = _; met = c.call.ensures; leaves = refl },
+    )

@@ -3,4 +3,10 @@ use Rattle.renamer_c.proofs.held.Held.with_taker.Goals as goal
 
 pub returns-in-Taker : goal.returns-in-Taker
 returns-in-Taker g c =
-    inr (c.in-Taker.taker, c.call.new.arg2, c.in-Taker.is, refl, record { shown = _; shows = refl; left = _; met = c.call.ensures; leaves = refl })
+    inr (
+      c.in-Taker.taker,
+      c.call.new.arg2,
+      c.in-Taker.is,
+      refl,
+      record { shown = _; shows = refl; left = _; met = c.call.ensures; leaves = refl },
+    )

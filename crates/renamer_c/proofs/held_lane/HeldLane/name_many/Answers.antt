@@ -16,7 +16,9 @@ returns-clause-ok c =
       | else-room-count-via-then-room-count+else-is_err w ↦
           let got : w.reserve.new.self ≡ with_room (length clients) old = search rules in
           let less : old.room ≤ length clients = omega (arith, w.if-room-count.true, c.room.ensures) in
-          with-more-room old new clients less (subst (λ (l : LaneValue). AreAllNamed l new clients) (ap (λ i. i.1.1.0) w.self-inside-is ∙ got) c.name_all.ensures)
-      | else-room-count-via-else-room-count w ↦ subst (λ (l : LaneValue). AreAllNamed l new clients) (ap (λ i. i.1.1.0) w.self-inside-is) c.name_all.ensures
+          with-more-room old new clients less (subst (λ (l : LaneValue). AreAllNamed l new clients)
+          (ap (λ i. i.1.1.0) w.self-inside-is ∙ got) c.name_all.ensures)
+      | else-room-count-via-else-room-count w ↦ subst (λ (l : LaneValue). AreAllNamed l new clients) (ap (λ i. i.1.1.0) w.self-inside-is)
+          c.name_all.ensures
     ] in
     subst (λ (l : LaneValue). AreAllNamed l new clients) c.self.view_is named

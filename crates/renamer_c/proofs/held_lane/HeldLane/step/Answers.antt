@@ -20,8 +20,10 @@ returns-clause-ok c =
     let token : ℕ = c.in-Some.token in
     let some : 0 < length (on lists wire) = search rules in
     let (client, at, n, is) = c.step-moved.ensures in
-    let begins : IsFirst wire c.self.inside.lane.yard token = first-is wire token c.self.inside.lane.yard (sym c.in-Some.is ∙ c.first.ensures) in
-    let here : IsThere lists token begins.client wire = first-there lists token begins.client wire begins.after c.lane_laws.ensures.once (some-inside lists wire some) begins.begins in
+    let begins : IsFirst wire c.self.inside.lane.yard token =
+    first-is wire token c.self.inside.lane.yard (sym c.in-Some.is ∙ c.first.ensures) in
+    let here : IsThere lists token begins.client wire =
+    first-there lists token begins.client wire begins.after c.lane_laws.ensures.once (some-inside lists wire some) begins.begins in
     let stands : IsThere lists token client at = c.lane_laws.ensures.there token client at is.stood in
     let alike = there-alike lists token client begins.client at wire stands here in
     let (other, read) = c.client_of-client.ensures in

@@ -26,14 +26,20 @@ loop-named-preserved c =
     let left : length rest + i ≡ length clients = omega (arith, ap length whole, length-drop i clients, was.few) in
     let few : i + n ≤ length clients = omega (arith, run.few, left) in
     let by : map client_from (take n rest) ≡ by_entry (first_entry rest) ids =
-    by-run n (first_entry rest) rest run.few.0 run.same ∙ ap (λ (xs : List ℕ). by_entry (first_entry rest) xs) (sym c.copy_run-count.ensures.ids) in
+    by-run n (first_entry rest) rest run.few.0 run.same
+    ∙ ap (λ (xs : List ℕ). by_entry (first_entry rest) xs) (sym c.copy_run-count.ensures.ids) in
     let next : take (i + n) all ≡ take i all ++ by_entry (first_entry rest) ids =
-    take_both i n all (omega (arith, was.few, long)) ∙ ap (λ (cs : List ledger.Client). take i all ++ cs) (sym (map-part client_from i n clients) ∙ ap (λ (cs : List Client). map client_from (take n cs)) (sym whole) ∙ by) in
+    take_both i n all (omega (arith, was.few, long))
+    ∙ ap (λ (cs : List ledger.Client). take i all ++ cs)
+    (sym (map-part client_from i n clients) ∙ ap (λ (cs : List Client). map client_from (take n cs)) (sym whole) ∙ by) in
     let longest : IsLongestRun (drop i clients) (first_entry rest) 64 n =
-    subst (λ (cs : List Client). IsLongestRun cs (first_entry rest) 64 n) whole (subst (λ (most : ℕ). IsLongestRun rest (first_entry rest) most n) was.ids run) in
+    subst (λ (cs : List Client). IsLongestRun cs (first_entry rest) 64 n) whole
+    (subst (λ (most : ℕ). IsLongestRun rest (first_entry rest) most n) was.ids run) in
     let named : AreNamedAtOnce c.loop-named.lane c.name_run.new.lane (map (λ d. d.client) (take n (drop i clients))) (first_entry rest) =
-    subst (λ (cs : List Client). AreNamedAtOnce c.loop-named.lane c.name_run.new.lane (map (λ d. d.client) (take n cs)) (first_entry rest)) whole
-    (subst (λ (xs : List ℕ). AreNamedAtOnce c.loop-named.lane c.name_run.new.lane xs (first_entry rest)) c.copy_run-count.ensures.ids is.named) in
+    subst (λ (cs : List Client). AreNamedAtOnce c.loop-named.lane c.name_run.new.lane (map (λ d. d.client) (take n cs)) (first_entry rest))
+    whole
+    (subst (λ (xs : List ℕ). AreNamedAtOnce c.loop-named.lane c.name_run.new.lane xs (first_entry rest)) c.copy_run-count.ensures.ids
+    is.named) in
     record {
       few = few;
       ids = c.copy_run-count.ensures.same ∙ was.ids;

@@ -6,4 +6,5 @@ abbrev pub ghosts-load_next : goal.ghosts-load_next
 ghosts-load_next a = record { start = a.self.now.start }
 
 abbrev pub invariant-loop-entry : goal.invariant-loop-entry
-invariant-loop-entry l = (l.seat.table_id ≡ l.initial.seat.table_id) × (l.seat.me.1 ≡ []) × Loaded l.self.start l.initial.seat.me.0 l.entry l.total l.seat.me.0
+invariant-loop-entry l = (l.seat.table_id ≡ l.initial.seat.table_id) × (l.seat.me.1 ≡ [])
+    × Loaded l.self.start l.initial.seat.me.0 l.entry l.total l.seat.me.0

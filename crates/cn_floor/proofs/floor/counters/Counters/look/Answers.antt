@@ -12,6 +12,7 @@ load-requires g c =
     let first : 0 ≡ c.self.inside.stride * 0 = omega arith in (
       search rules,
       there c.self.inside c.self.invariant first (omega arith),
-      at-word c.self.inside c.self.invariant (λ n. n) (λ n new. (◌≡◌ {A = ℕ} 0 0) × (new.1 ≡ []) × Looks g.T.LoadOf.start c.args.seat.now.me.0 new.0)
+      at-word c.self.inside c.self.invariant (λ n. n)
+          (λ n new. (◌≡◌ {A = ℕ} 0 0) × (new.1 ≡ []) × Looks g.T.LoadOf.start c.args.seat.now.me.0 new.0)
           first (looks (start_of key) _ _ 0 0 c.args.seat.now.me g.T.LoadOf.start refl (c.requires.hears ∙ about) c.requires.slots),
     )

@@ -27,7 +27,8 @@ returns-clause-distinct g c =
     let grants : c.load_all-entered.new.seat.me.0.grants ≡ c.args.seat.now.me.0.grants ++ c.args.other.me.0.grants =
     ap (λ (x : View). x.grants) c.load_all-entered.ensures.view ∙ joined
     ∙ (λ i. (c.look.ensures.looks.0 i).grants ++ (c.look-2.ensures.looks.0 i).grants) in
-    names-distinct c.args.self.now.start c.args.seat.now.me.0 c.args.other.me.0 c.load_all-entered.new.seat.me.0 grants c.load_all-entered.ensures.in_state
+    names-distinct c.args.self.now.start c.args.seat.now.me.0 c.args.other.me.0 c.load_all-entered.new.seat.me.0 grants
+    c.load_all-entered.ensures.in_state
 
 pub returns-clause-in_state : goal.returns-clause-in_state
 returns-clause-in_state g c =
@@ -40,16 +41,22 @@ returns-clause-answer g c =
     let v : View = c.args.seat.now.me.0 in
     let w : View = c.args.other.me.0 in
     let joined = ap (λ me. me.0) c.join_seat.ensures.2 ∙ (λ i. both_of (c.look.ensures.looks.0 i) (c.look-2.ensures.looks.0 i)) in
-    let both = answers-both c.args.self.now.start (after_look v) (after_look w) c.load_all-entered.result (subst (λ (x : View). IsAnswer c.args.self.now.start x c.load_all-entered.result) joined c.load_all-entered.ensures.answer) in (
+    let both = answers-both c.args.self.now.start (after_look v) (after_look w) c.load_all-entered.result
+    (subst (λ (x : View). IsAnswer c.args.self.now.start x c.load_all-entered.result) joined c.load_all-entered.ensures.answer) in (
       record { own = both.0.own; seen = both.0.seen; names = both.0.names; quota = both.0.quota },
       record { own = both.1.own; seen = both.1.seen; names = both.1.names; quota = both.1.quota },
     )
 
-cut-first : (start : Start) (entered : ℕ) (p : Pair) (v l : View) → p.first ≡ after_look v → l ≡ after_entered start entered (both_of p.first p.second) → cut_first p l ≡ first_after start entered v
+cut-first : (start : Start) (entered : ℕ) (p : Pair) (v l : View) → p.first ≡ after_look v
+    → l ≡ after_entered start entered (both_of p.first p.second) → cut_first p l ≡ first_after start entered v
 cut-first start entered p v l one is =
-    let steps : v.steps + 1 + p.second.steps + 1 + start.network.table.entries - p.second.steps + 1 ≡ v.steps + start.network.table.entries + 3 = omega arith in
+    let steps : v.steps + 1 + p.second.steps + 1 + start.network.table.entries - p.second.steps + 1
+    ≡ v.steps + start.network.table.entries + 3 = omega arith in
     ap (cut_first p) is
-    ∙ (λ i. record (one i) { seen = entered; steps = (one i).steps + p.second.steps + 1 + start.network.table.entries - p.second.steps + 1 })
+    ∙ (λ i. record (one i) {
+      seen = entered;
+      steps = (one i).steps + p.second.steps + 1 + start.network.table.entries - p.second.steps + 1;
+    })
     ∙ ap (λ (n : ℕ). record v { seen = entered; steps = n }) steps
 
 pub cut_in_two-other-requires-clause-pair : goal.cut_in_two-other-requires-clause-pair
@@ -57,7 +64,8 @@ cut_in_two-other-requires-clause-pair g c =
     let start : Start = c.args.self.now.start in
     let entered : ℕ = c.load_all-entered.result in
     c.load_all-entered.ensures.view ∙ ap (λ me. after_entered start entered me.0) c.join_seat.ensures.2
-    ∙ (λ i. after_entered start entered (both_of ((c.look.ensures.looks.0 ∙ sym c.requires.pair.0) i) ((c.look-2.ensures.looks.0 ∙ sym c.requires.pair.1) i)))
+    ∙ (λ i. after_entered start entered (both_of ((c.look.ensures.looks.0 ∙ sym c.requires.pair.0) i)
+    ((c.look-2.ensures.looks.0 ∙ sym c.requires.pair.1) i)))
 
 pub cut_in_two-other-requires-clause-wires : goal.cut_in_two-other-requires-clause-wires
 cut_in_two-other-requires-clause-wires g c =
@@ -82,8 +90,10 @@ returns-clause-first g c =
     let p : Pair = g.T.PairOf.pair in
     let is : c.load_all-entered.new.seat.me.0 ≡ after_entered start entered (both_of p.first p.second) =
     c.load_all-entered.ensures.view ∙ ap (λ me. after_entered start entered me.0) c.join_seat.ensures.2
-    ∙ (λ i. after_entered start entered (both_of ((c.look.ensures.looks.0 ∙ sym c.requires.pair.0) i) ((c.look-2.ensures.looks.0 ∙ sym c.requires.pair.1) i))) in
-    let view : cut_first p c.load_all-entered.new.seat.me.0 ≡ first_after start entered c.args.seat.now.me.0 = cut-first start entered p c.args.seat.now.me.0 _ c.requires.pair.0 is in (
+    ∙ (λ i. after_entered start entered (both_of ((c.look.ensures.looks.0 ∙ sym c.requires.pair.0) i)
+    ((c.look-2.ensures.looks.0 ∙ sym c.requires.pair.1) i))) in
+    let view : cut_first p c.load_all-entered.new.seat.me.0 ≡ first_after start entered c.args.seat.now.me.0 =
+    cut-first start entered p c.args.seat.now.me.0 _ c.requires.pair.0 is in (
       c.cut_in_two-other.ensures.first.0 ∙ c.load_all-entered.ensures.seat.0 ∙ c.join_seat.ensures.0 ∙ c.look.ensures.seat.0,
       c.cut_in_two-other.ensures.first.1 ∙ (λ i. (view i, [])),
     )

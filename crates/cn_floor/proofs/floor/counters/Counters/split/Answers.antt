@@ -10,5 +10,9 @@ split_seat-requires g c =
     let about = sym (ap (λ (h : FloorValue). h.start) c.self.view_is) in
     let q : ℕ = g.T.Portion.quota in
     let is = c.requires.quota.0 in
-    let enough : q ≤ c.args.seat.now.me.0.quota = omega (arith, c.requires.quota.1) in
-    (search rules, there c.self.inside c.self.invariant (first c.self.inside c.self.invariant) (omega arith), splits-at c.self.inside c.self.invariant (splits (start_of key) _ q c.args.seat.now.me.0 (c.requires.own.1 ∙ about) c.requires.slots.1 enough))
+    let enough : q ≤ c.args.seat.now.me.0.quota = omega (arith, c.requires.quota.1) in (
+      search rules,
+      there c.self.inside c.self.invariant (first c.self.inside c.self.invariant) (omega arith),
+      splits-at c.self.inside c.self.invariant
+          (splits (start_of key) _ q c.args.seat.now.me.0 (c.requires.own.1 ∙ about) c.requires.slots.1 enough),
+    )

@@ -11,15 +11,18 @@ fetch_add-requires g c =
     let key = c.self.inside.table.shared.key in
     let start : Start = start_of key in
     let about : c.args.self.now.start ≡ start = sym (ap (λ (h : FloorValue). h.start) c.self.view_is) in
-    let word : c.word_of.result ≡ end_word start.network.table c.args.end = c.word_of.ensures.word ∙ ap (λ (s : Start). end_word s.network.table c.args.end) about in
+    let word : c.word_of.result ≡ end_word start.network.table c.args.end =
+    c.word_of.ensures.word ∙ ap (λ (s : Start). end_word s.network.table c.args.end) about in
     let stands : Stands start.network.table c.args.end = subst (λ (s : Start). Stands s.network.table c.args.end) about c.requires.stands in
     let low = end-there start.network.table c.args.end stands in (
       search rules,
       there c.self.inside c.self.invariant c.place_of-place.ensures (omega (arith, word, low)),
-      at-word c.self.inside c.self.invariant (λ n. (n + 1) % 2 ^ 64) (λ n new. (new.1 ≡ []) × GoesOn g.T.StepOf.going c.args.seat.now.me.0 n new.0)
+      at-word c.self.inside c.self.invariant (λ n. (n + 1) % 2 ^ 64)
+          (λ n new. (new.1 ≡ []) × GoesOn g.T.StepOf.going c.args.seat.now.me.0 n new.0)
           c.place_of-place.ensures
           (lets-on-by start _ _ c.args.seat.now.me g.T.StepOf.going c.args._token c.args._client c.args._wire c.args.end c.word_of.result
-          (c.requires.going ∙ ap (λ (s : Start). record { start = s; token = c.args._token; client = c.args._client; wire = c.args._wire; end = c.args.end }) about)
+          (c.requires.going ∙ ap (λ (s : Start). record
+          { start = s; token = c.args._token; client = c.args._client; wire = c.args._wire; end = c.args.end }) about)
           word c.requires.slots.0 c.requires.slots.1 (c.requires.own.1 ∙ about) c.requires.there
           (subst (λ (s : Start). length c.args.seat.now.me.0.tokens ≡ length s.network.table.ends) about c.requires.wires)
           (subst (λ (s : Start). end_of s.network.table c.args._wire ≡ c.args.end) about c.requires.ends)

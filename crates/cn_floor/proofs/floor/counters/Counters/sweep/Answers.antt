@@ -11,12 +11,14 @@ fetch_add-requires g c =
     let key = c.self.inside.table.shared.key in
     let start : Start = start_of key in
     let about : c.args.self.now.start ≡ start = sym (ap (λ (h : FloorValue). h.start) c.self.view_is) in
-    let word : c.word_of.result ≡ end_word start.network.table c.args.end = c.word_of.ensures.word ∙ ap (λ (s : Start). end_word s.network.table c.args.end) about in
+    let word : c.word_of.result ≡ end_word start.network.table c.args.end =
+    c.word_of.ensures.word ∙ ap (λ (s : Start). end_word s.network.table c.args.end) about in
     let stands : Stands start.network.table c.args.end = subst (λ (s : Start). Stands s.network.table c.args.end) about c.requires.stands in
     let low = end-there start.network.table c.args.end stands in (
       search rules,
       there c.self.inside c.self.invariant c.place_of-place.ensures (omega (arith, word, low)),
-      at-word c.self.inside c.self.invariant (λ n. (n + c.args.tokens) % 2 ^ 64) (λ n new. (new.1 ≡ []) × AllGoOn g.T.SweepOf.sweeping c.args.seat.now.me.0 n new.0)
+      at-word c.self.inside c.self.invariant (λ n. (n + c.args.tokens) % 2 ^ 64)
+          (λ n new. (new.1 ≡ []) × AllGoOn g.T.SweepOf.sweeping c.args.seat.now.me.0 n new.0)
           c.place_of-place.ensures
           (all_go-on start _ _ c.args.seat.now.me g.T.SweepOf.sweeping c.args._wire c.args.end c.args.tokens c.word_of.result
           (c.requires.sweeping ∙ ap (λ (s : Start). record { start = s; wire = c.args._wire; end = c.args.end }) about)

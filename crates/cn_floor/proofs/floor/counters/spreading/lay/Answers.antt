@@ -19,4 +19,5 @@ loop-word-preserved c =
 
 pub returns : goal.returns
 returns c =
-    c.loop-word.invariant ∙ ap (spread c.args.stride) (laid-all c.args.words.now c.loop-word.word (omega (arith, c.loop-word-test.false, c.loop-word.auto.word-end)))
+    c.loop-word.invariant ∙ ap (spread c.args.stride)
+    (laid-all c.args.words.now c.loop-word.word (omega (arith, c.loop-word-test.false, c.loop-word.auto.word-end)))

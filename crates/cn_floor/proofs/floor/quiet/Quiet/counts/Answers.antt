@@ -13,5 +13,7 @@ returns c =
     let balancers : c.balancers.result ≡ t.balancers = c.balancers.ensures.value ∙ ap (λ (n : Network). n.table.balancers) network in
     let width : c.width.result ≡ t.width = c.width.ensures.value ∙ ap (λ (n : Network). n.table.width) network in
     let first : 1 + c.entries.result + c.balancers.result ≡ 1 + t.entries + t.balancers = omega (arith, entries, balancers) in
-    let count : 1 + c.entries.result + c.balancers.result + c.width.result - (1 + c.entries.result + c.balancers.result) ≡ t.width = omega (arith, width) in
-    (λ x. take (count x) (drop (first x) c.risen.result.now)) ∙ counts-part c.args.self.now.start c.args.self.now.words c.risen.result.now c.risen.ensures
+    let count : 1 + c.entries.result + c.balancers.result + c.width.result - (1 + c.entries.result + c.balancers.result) ≡ t.width =
+    omega (arith, width) in
+    (λ x. take (count x) (drop (first x) c.risen.result.now))
+    ∙ counts-part c.args.self.now.start c.args.self.now.words c.risen.result.now c.risen.ensures

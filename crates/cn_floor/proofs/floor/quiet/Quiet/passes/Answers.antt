@@ -13,4 +13,5 @@ returns c =
     let balancers : c.balancers.result ≡ t.balancers = c.balancers.ensures.value ∙ ap (λ (n : Network). n.table.balancers) network in
     let first : 1 + c.entries.result ≡ 1 + t.entries = omega (arith, entries) in
     let count : 1 + c.entries.result + c.balancers.result - (1 + c.entries.result) ≡ t.balancers = omega (arith, balancers) in
-    (λ x. take (count x) (drop (first x) c.risen.result.now)) ∙ passes-part c.args.self.now.start c.args.self.now.words c.risen.result.now c.risen.ensures
+    (λ x. take (count x) (drop (first x) c.risen.result.now))
+    ∙ passes-part c.args.self.now.start c.args.self.now.words c.risen.result.now c.risen.ensures

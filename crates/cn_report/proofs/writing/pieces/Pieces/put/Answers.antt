@@ -3,7 +3,8 @@ use Rattle.cn_report.proofs.WritingLemmas.Putting.{put-then}
 use Rattle.cn_report.proofs.writing.pieces.Pieces.put.Goals as goal
 
 -- what is held is put
-put-held : {W : Type 0} (contents : W → Option (List ℕ)) (w : W) (from to : Pending) (bytes : List ℕ) → to.held ≡ from.held ++ bytes → to.written ≡ from.written → to.failed ≡ from.failed
+put-held : {W : Type 0} (contents : W → Option (List ℕ)) (w : W) (from to : Pending) (bytes : List ℕ) → to.held ≡ from.held ++ bytes
+    → to.written ≡ from.written → to.failed ≡ from.failed
     → Puts contents w w from to bytes
 put-held contents w from to bytes held written failed = record {
   goes = λ before text left way. record {
@@ -25,4 +26,5 @@ hold-requires g c = c.make_room.ensures.room
 pub returns : goal.returns
 returns g c =
     let h = c.hold.ensures in
-    put-then c.make_room.ensures.puts (put-held g.W.Write.contents c.make_room.new.writer c.make_room.new.self c.hold.new.self c.args.bytes.now h.held h.written h.failed)
+    put-then c.make_room.ensures.puts (put-held g.W.Write.contents c.make_room.new.writer c.make_room.new.self c.hold.new.self
+    c.args.bytes.now h.held h.written h.failed)

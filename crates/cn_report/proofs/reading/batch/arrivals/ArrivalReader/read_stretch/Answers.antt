@@ -25,7 +25,8 @@ loop-taken-preserved g c =
       many = rw items (omega (arith, length-append xs (c.in-Some.arrival ∷ []), c.loop-taken.invariant.many));
       reads = λ text before read.
           let (records, spelled, now) = c.loop-taken.invariant.reads text before read in
-          let (fields, next, is) = rw (c.in-Some.is, c.loop-taken.invariant.same.heading, c.loop-taken.invariant.same.bounds) at (c.in_ok-arrival.ensures.next text (before ++ records) now) in (
+          let (fields, next, is) = rw (c.in-Some.is, c.loop-taken.invariant.same.heading, c.loop-taken.invariant.same.bounds) at
+          (c.in_ok-arrival.ensures.next text (before ++ records) now) in (
             records ++ fields ∷ [],
             rw items (spelled-more c.args.self.now.heading c.args.self.now.bounds records xs fields c.in-Some.arrival spelled is),
             rw (append_assoc before records (fields ∷ [])) at next,
@@ -40,7 +41,10 @@ returns-in_err-arrival-clause-reads g c =
       same = same-header _ _ _ c.loop-taken.invariant.same c.next_arrival.ensures.same;
       reads = λ text before read.
           let (records, spelled, now) = c.loop-taken.invariant.reads text before read in
-          stretch-read g.R.Read.remaining c.loop-taken.self.records.value c.next_arrival.new.self.records.value c.args.self.now.heading c.args.self.now.bounds text before records c.loop-taken.arrivals.items _ spelled now (rw (c.loop-taken.invariant.same.heading, c.loop-taken.invariant.same.bounds) at (c.in_err-arrival.ensures.refused text (before ++ records) now));
+          stretch-read g.R.Read.remaining c.loop-taken.self.records.value c.next_arrival.new.self.records.value c.args.self.now.heading
+          c.args.self.now.bounds text before records c.loop-taken.arrivals.items _ spelled now
+          (rw (c.loop-taken.invariant.same.heading, c.loop-taken.invariant.same.bounds) at
+          (c.in_err-arrival.ensures.refused text (before ++ records) now));
     })
 
 pub returns-in_default-clause-reads : goal.returns-in_default-clause-reads
@@ -49,7 +53,9 @@ returns-in_default-clause-reads g c = record {
   same = same-header _ _ _ c.loop-taken.invariant.same c.next_arrival.ensures.same;
   reads = λ text before read.
       let (records, spelled, now) = c.loop-taken.invariant.reads text before read in
-      stretch-read g.R.Read.remaining c.loop-taken.self.records.value c.next_arrival.new.self.records.value c.args.self.now.heading c.args.self.now.bounds text before records c.loop-taken.arrivals.items (Ok false) spelled now (rw c.in_default.is at (c.in_ok-arrival.ensures.next text (before ++ records) now));
+      stretch-read g.R.Read.remaining c.loop-taken.self.records.value c.next_arrival.new.self.records.value c.args.self.now.heading
+      c.args.self.now.bounds text before records c.loop-taken.arrivals.items (Ok false) spelled now
+      (rw c.in_default.is at (c.in_ok-arrival.ensures.next text (before ++ records) now));
 }
 
 pub returns-then-is_err-clause-reads : goal.returns-then-is_err-clause-reads
@@ -61,7 +67,8 @@ returns-then-is_err-clause-reads g c =
       same = same-header _ _ _ c.loop-taken.invariant.same c.next_arrival.ensures.same;
       reads = λ text before read.
           let (records, spelled, now) = c.loop-taken.invariant.reads text before read in
-          stretch-read g.R.Read.remaining c.loop-taken.self.records.value c.next_arrival.new.self.records.value c.args.self.now.heading c.args.self.now.bounds text before records c.push.new.self.items (Err Memory) (rw items spelled) now (inr (inr refl));
+          stretch-read g.R.Read.remaining c.loop-taken.self.records.value c.next_arrival.new.self.records.value c.args.self.now.heading
+          c.args.self.now.bounds text before records c.push.new.self.items (Err Memory) (rw items spelled) now (inr (inr refl));
     }
 
 pub returns-clause-reads : goal.returns-clause-reads
@@ -70,5 +77,6 @@ returns-clause-reads g c = record {
   same = c.loop-taken.invariant.same;
   reads = λ text before read.
       let (records, spelled, now) = c.loop-taken.invariant.reads text before read in
-      stretch-read g.R.Read.remaining c.loop-taken.self.records.value c.loop-taken.self.records.value c.args.self.now.heading c.args.self.now.bounds text before records c.loop-taken.arrivals.items (Ok true) spelled now now;
+      stretch-read g.R.Read.remaining c.loop-taken.self.records.value c.loop-taken.self.records.value c.args.self.now.heading
+      c.args.self.now.bounds text before records c.loop-taken.arrivals.items (Ok true) spelled now now;
 }

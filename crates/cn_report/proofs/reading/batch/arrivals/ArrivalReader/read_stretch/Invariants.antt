@@ -8,5 +8,6 @@ invariant-loop-taken g l = record {
   same : HasSameHeader l.initial.self l.self;
   many : length l.arrivals.items ≡ l._taken;
   reads : (text : List ℕ) (before : List Record) → HasRead g.R.Read.remaining l.initial.self.records.value text before
-      → (records : List Record) × AreSpelled l.initial.self.heading l.initial.self.bounds records l.arrivals.items × HasRead g.R.Read.remaining l.self.records.value text (before ++ records);
+      → (records : List Record) × AreSpelled l.initial.self.heading l.initial.self.bounds records l.arrivals.items
+      × HasRead g.R.Read.remaining l.self.records.value text (before ++ records);
 }

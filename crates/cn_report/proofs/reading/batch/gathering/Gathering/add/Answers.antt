@@ -6,11 +6,13 @@ use Rattle.cn_report.proofs.ReadingLemmas.Results.{if_err-map, on_ok, on_ok-map}
 use Rattle.cn_report.proofs.reading.batch.gathering.Gathering.add.Goals as goal
 
 pub returns-then-arrival-self-clause-err : goal.returns-then-arrival-self-clause-err
-returns-then-arrival-self-clause-err c = λ before gathered. inl (backwards c.args.bounds before c.args.arrival (omega (arith, gathered.last, c.if-arrival-self.true)))
+returns-then-arrival-self-clause-err c =
+    λ before gathered. inl (backwards c.args.bounds before c.args.arrival (omega (arith, gathered.last, c.if-arrival-self.true)))
 
 pub returns-then-arrival-from-clause-err : goal.returns-then-arrival-from-clause-err
 returns-then-arrival-from-clause-err c = λ before gathered.
-    inl (out_of_range c.args.bounds before c.args.arrival (omega (arith, gathered.last, c.if-arrival-self.false)) (omega (arith, c.from.ensures, c.if-arrival-from.true)))
+    inl (out_of_range c.args.bounds before c.args.arrival (omega (arith, gathered.last, c.if-arrival-self.false))
+    (omega (arith, c.from.ensures, c.if-arrival-from.true)))
 
 pub returns-clause-ok : goal.returns-clause-ok
 returns-clause-ok c =
@@ -19,8 +21,11 @@ returns-clause-ok c =
     on_ok-map c.add_to_latest.result c.add_to_latest.ensures.ok (λ j before gathered.
     let (none, ended, number, clients, keys, next) = j in
     let held = keeps before gathered.holds in (
-      sym (reported-of c.turn_to.new.self before c.args.bounds c.args.arrival held here (omega (arith, gathered.last, c.if-arrival-self.false)) (omega (arith, c.from.ensures, c.if-arrival-from.false)) (omega (arith, gathered.next, c.turn_to.ensures.next))) ∙ none,
-      taken_of c.turn_to.new.self c.add_to_latest.new.self before c.args.arrival held here ended number clients keys (omega (arith, next, gathered.next, c.turn_to.ensures.next)),
+      sym (reported-of c.turn_to.new.self before c.args.bounds c.args.arrival held here
+          (omega (arith, gathered.last, c.if-arrival-self.false)) (omega (arith, c.from.ensures, c.if-arrival-from.false))
+          (omega (arith, gathered.next, c.turn_to.ensures.next))) ∙ none,
+      taken_of c.turn_to.new.self c.add_to_latest.new.self before c.args.arrival held here ended number clients keys
+          (omega (arith, next, gathered.next, c.turn_to.ensures.next)),
     ))
 
 pub returns-clause-err : goal.returns-clause-err
@@ -30,7 +35,9 @@ returns-clause-err c =
     if_err-map c.add_to_latest.result c.add_to_latest.ensures.err (λ cause reported before gathered.
     elim reported [
       | inl e ↦
-          inl (sym (reported-of c.turn_to.new.self before c.args.bounds c.args.arrival (keeps before gathered.holds) here (omega (arith, gathered.last, c.if-arrival-self.false)) (omega (arith, c.from.ensures, c.if-arrival-from.false)) (omega (arith, gathered.next, c.turn_to.ensures.next))) ∙ e)
+          inl (sym (reported-of c.turn_to.new.self before c.args.bounds c.args.arrival (keeps before gathered.holds) here
+          (omega (arith, gathered.last, c.if-arrival-self.false)) (omega (arith, c.from.ensures, c.if-arrival-from.false))
+          (omega (arith, gathered.next, c.turn_to.ensures.next))) ∙ e)
       | inr e ↦ inr e
     ])
 
@@ -40,7 +47,8 @@ returns-clause-keeps c =
     let turned = on_ok c.turn_to.result good c.turn_to.ensures.keeps in
     on_ok-map c.add_to_latest.result c.add_to_latest.ensures.ok (λ j.
     let (none, ended, number, clients, keys, next) = j in
-    added-keeps c.turn_to.new.self c.add_to_latest.new.self c.args.bounds _ none (omega (arith, c.from.ensures, c.if-arrival-from.false)) ended number clients keys next (turned c.args.bounds c.requires))
+    added-keeps c.turn_to.new.self c.add_to_latest.new.self c.args.bounds _ none (omega (arith, c.from.ensures, c.if-arrival-from.false))
+    ended number clients keys next (turned c.args.bounds c.requires))
 
 pub returns-clause-next : goal.returns-clause-next
 returns-clause-next c =

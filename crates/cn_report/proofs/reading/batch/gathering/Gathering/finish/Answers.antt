@@ -6,7 +6,8 @@ use Rattle.cn_report.proofs.reading.batch.gathering.Gathering.finish.Goals as go
 
 pub returns-in-Ok-clause-answer : goal.returns-in-Ok-clause-answer
 returns-in-Ok-clause-answer c = λ heading bounds records arrivals taken gathered.
-    taken_all heading bounds records records arrivals _ taken refl (rw c.in-Ok.ensures.turned.0 (ended-epochs c.args.self arrivals gathered.holds))
+    taken_all heading bounds records records arrivals _ taken refl
+    (rw c.in-Ok.ensures.turned.0 (ended-epochs c.args.self arrivals gathered.holds))
 
 pub returns-in-Ok-clause-fits : goal.returns-in-Ok-clause-fits
 returns-in-Ok-clause-fits c = λ bounds keeps. rw c.in-Ok.ensures.turned.0 (ended-servable c.args.self bounds keeps)

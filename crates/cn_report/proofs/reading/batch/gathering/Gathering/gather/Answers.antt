@@ -6,7 +6,8 @@ pub loop-arrival-init : goal.loop-arrival-init
 loop-arrival-init c = record {
   keeps = c.requires;
   next = omega arith;
-  taken = λ heading before records came taken gathered spelled. none-gathered-of heading c.args.bounds before records came c.args.arrivals.now c.args.self.now taken gathered;
+  taken = λ heading before records came taken gathered spelled.
+      none-gathered-of heading c.args.bounds before records came c.args.arrivals.now c.args.self.now taken gathered;
 }
 
 pub returns-in-Err : goal.returns-in-Err
@@ -18,7 +19,8 @@ returns-in-Err c = record {
       let at = c.loop-arrival.arrival-index in
       let xs = c.args.arrivals.now in
       let to = c.loop-arrival.invariant.taken heading before records came taken gathered spelled in
-      gathering-fault heading c.args.bounds before records came xs spelled at c.loop-arrival-test.true _ c.loop-arrival.self later c.in-Err.cause to
+      gathering-fault heading c.args.bounds before records came xs spelled at c.loop-arrival-test.true _ c.loop-arrival.self later
+      c.in-Err.cause to
       (c.in-Err.ensures.err (came ++ take at xs) to.gathered);
 }
 
@@ -31,7 +33,8 @@ loop-arrival-preserved c = record {
       let xs = c.args.arrivals.now in
       let to = c.loop-arrival.invariant.taken heading before records came taken gathered spelled in
       let (none, more) = c.in_default.ensures.ok (came ++ take at xs) to.gathered in
-      gathered-next heading c.args.bounds before records came xs spelled at c.loop-arrival-test.true _ c.loop-arrival.self c.add.new.self to none more;
+      gathered-next heading c.args.bounds before records came xs spelled at c.loop-arrival-test.true _ c.loop-arrival.self c.add.new.self to
+      none more;
 }
 
 pub returns : goal.returns
@@ -40,6 +43,7 @@ returns c = record {
   next = omega (arith, c.loop-arrival.invariant.next, c.loop-arrival-test.false);
   at = tt;
   answer = λ heading before records later came taken gathered spelled.
-      all-gathered heading c.args.bounds before records came c.args.arrivals.now spelled c.loop-arrival.self c.loop-arrival.arrival-index c.loop-arrival-test.false
+      all-gathered heading c.args.bounds before records came c.args.arrivals.now spelled c.loop-arrival.self c.loop-arrival.arrival-index
+      c.loop-arrival-test.false
       (c.loop-arrival.invariant.taken heading before records came taken gathered spelled);
 }
