@@ -60,9 +60,9 @@ pub fn a_run_in_order_has_one_text()
 }
 
 /// What a run writes in the grants form, with carry or without, is a list that a check takes for tight: of a large
-/// batch one that a check of a large list does. And a check by any width w reports the epochs of the batch, with as many
-/// names `n` of `n mod w = i` as the share of exit i. Of the k names of an epoch that comes after m clients as many
-/// have `(m + n) mod w = i` as the share of exit i in m + k clients minus that in m: with carry this is the exit's
+/// batch one that a check of a large list does. And a check by any width w reports the epochs of the batch, with as
+/// many names `n` of `n mod w = i` as the share of exit i. Of the k names of an epoch that comes after m clients as
+/// many have `(m + n) mod w = i` as the share of exit i in m + k clients minus that in m: with carry this is the exit's
 /// count.
 pub fn written_grants_are_accepted()
     ensures tight { (net : Description) (carry large : Bool) (bytes text : List ℕ)

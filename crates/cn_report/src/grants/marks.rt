@@ -21,6 +21,7 @@ impl Marks {
     ghost use Rattle.std.specs.Ordering.{nat_cmp};
     ghost use Rattle.cn_report.specs.Grants.Marks.{is_marked};
 
+    /// The empty set.
     pub(crate) fn new(alloc: Global) -> Self
         ensures { (n : ℕ) → is_marked result n ≡ false }
     {
@@ -30,6 +31,7 @@ impl Marks {
         }
     }
 
+    /// Empties the set: no place has the next stamp. Once the stamps are used up, the places go.
     pub(crate) fn clear(&mut self)
         ensures { (n : ℕ) → is_marked self.new n ≡ false }
     {
@@ -40,6 +42,7 @@ impl Marks {
         self.stamp += 1;
     }
 
+    /// Whether a number is in the set.
     pub(crate) fn has(&self, number: u64) -> bool
         ensures { result ≡ is_marked self.now number }
     {
