@@ -69,8 +69,6 @@ Status:
      or a write failed
   4  the grant list is not tight";
 
-// ---- run
-
 /// The long help of `run`, with the names of causes.
 fn run_help(alloc: Global) -> Result<String, AllocError> {
     let causes = batch_causes(alloc)?;
@@ -152,8 +150,6 @@ Status:
   3  not finished: no memory, no arguments or random numbers from the system,
      or a write failed";
 
-// ---- replay
-
 /// The long help of `replay`, with the names of causes.
 fn replay_help(alloc: Global) -> Result<String, AllocError> {
     let causes = schedule_causes(alloc)?;
@@ -221,8 +217,6 @@ Status:
   3  not finished: no memory, no arguments or random numbers from the system,
      or a write failed";
 
-// ---- check
-
 /// The long help of `check`, with the names of causes.
 fn check_help(alloc: Global) -> Result<String, AllocError> {
     let causes = grant_causes(alloc)?;
@@ -276,8 +270,6 @@ Status:
   2  the command line is refused
   3  not finished: no memory, no arguments from the system, or a write failed
   4  the list is not tight";
-
-// ---- show
 
 /// Of the subcommand `show`.
 pub(crate) const SHOW: &str = "\

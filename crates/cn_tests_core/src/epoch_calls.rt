@@ -57,7 +57,7 @@ enum Wanted {
     Alone,
 }
 
-/// Whether the record is that of the first epoch, with client 7 alone, which left by exit 0.
+/// Whether the record is that of the first epoch, with only client 7, which left by exit 0.
 fn is_alone(record: &EpochRecord) -> bool {
     record.number == 0
         && record.clients == 1

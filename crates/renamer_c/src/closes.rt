@@ -1,5 +1,5 @@
 //! Closes of floors that lanes own together. That a floor has other owners only this file says, and nothing copies it:
-//! so a close is refused for that cause only where `close` is called, and the floor was not its lane's alone.
+//! so a close is refused for that cause only where `close` is called, and the floor had other owners than its lane.
 
 ghost use Rattle.std.specs.Arc.{arc_value};
 ghost use Rattle.std.specs.Prelude.{◌≡◌, ◌+◌, Some, length, IfErr, IfOk};
