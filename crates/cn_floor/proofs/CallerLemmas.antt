@@ -2,7 +2,6 @@
 
 -- tokens and their wires
 pub use Rattle.cn_floor.proofs.InLane.Yards.{first-stands, lowest-inside, nobody-in, nobody-there}
-pub use Rattle.cn_floor.proofs.InLane.Alone.{off-own, on-own}
 pub use Rattle.cn_floor.proofs.InLane.Swept.{grants-kept, grants-left, kin-by, some-inside}
 -- what a lane may do, and what it did
 pub use Rattle.cn_floor.proofs.InStates.Sweeps.{MayGo, goes-there, rest-may}

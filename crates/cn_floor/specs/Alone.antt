@@ -1,11 +1,10 @@
--- A lane's only token, on its way from wire to wire.
-use Rattle.std.specs.Prelude.{◌≡◌, ℕ, ◌%◌, ◌<◌, ◌≤◌, List, [], ◌∷◌, length}
-use Rattle.cn_wiring.specs.declared.end.End.TheVariants.{Balancer, Exit}
+-- The only token of a view, on its way from wire to wire.
+use Rattle.std.specs.Prelude.{◌≡◌, ℕ, ◌%◌, ◌<◌, List, [], ◌∷◌, length}
+use Rattle.cn_wiring.specs.declared.end.End.TheVariants.{Balancer}
 use Rattle.cn_wiring.specs.Table.{end_of, output_wire}
 use Rattle.cn_yard.specs.Lists.{Lists, last_on, on}
 use Rattle.cn_floor.specs.declared.view.Start.{Start}
 use Rattle.cn_floor.specs.declared.view.View.{View}
-use Rattle.cn_floor.specs.Lane.{LaneValue}
 use Rattle.cn_floor.specs.Plays.{IsLetBy}
 use Rattle.cn_floor.specs.Views.{after_step}
 
@@ -24,7 +23,7 @@ PassesOn start token client (n ∷ rest) wire v to w =
     × PassesOn start token client rest (output_wire start.network.table b (n % 2))
     (after_step token client (Balancer b) n v) to w
 
--- a lane passed balancers, and did nothing else
+-- a view passed balancers, and nothing else changed
 pub record OnlyPassed (old new : View) : Type 0 where
   pub start : new.start ≡ old.start
   pub quota : new.quota ≡ old.quota
@@ -34,15 +33,3 @@ pub record OnlyPassed (old new : View) : Type 0 where
   pub grants : new.grants ≡ old.grants
   pub seen : new.seen ≡ old.seen
   pub loads : new.loads ≡ old.loads
-
--- a lane's only token goes from a wire to one that ends at an exit, by the balancers between
-pub record GoesAlone (old new : LaneValue) (token client wire to : ℕ) : Type 0 where
-  pub home : new.home ≡ old.home
-  pub room : new.room ≡ old.room
-  pub spare : new.yard.spare ≡ old.yard.spare
-  pub stood : IsAlone old.view.tokens token client wire
-  pub stands : IsAlone new.view.tokens token client to
-  pub onward : wire ≤ to
-  pub only : OnlyPassed old.view new.view
-  pub passed : (numbers : List ℕ) × PassesOn old.home.start token client numbers wire old.view to new.view
-  pub exit : (i : ℕ) × (end_of old.home.start.network.table to ≡ Exit i)

@@ -27,4 +27,3 @@ pub record IsLane (l : Inside) : Type 0 where
   pub few : tokens_in l.yard.lists + l.quota ≤ MOST_NAMED
   -- each token inside and each for which there is room can be granted its name
   pub room : length l.grants.items + tokens_in l.yard.lists + l.room ≤ vec_capacity l.grants
-  pub spare : l.room ≤ l.yard.spare

@@ -1,5 +1,5 @@
 -- A lane and a floor as contracts see them, and what calls make of a lane.
-use Rattle.std.specs.Prelude.{◌≡◌, ℕ, ◌+◌, ◌-◌, ◌%◌, ◌≤◌, [], Some, length, max, replicate}
+use Rattle.std.specs.Prelude.{◌≡◌, ℕ, ◌+◌, ◌-◌, ◌%◌, ◌≤◌, [], Some, length, max, min, replicate}
 use Rattle.atomic_table.specs.Seated.{TableId}
 use Rattle.cn_wiring.specs.declared.end.End.{End}
 use Rattle.cn_wiring.specs.declared.end.End.TheVariants.{Balancer, Exit}
@@ -20,7 +20,8 @@ pub record FloorValue : Type 0 where
   pub table : TableId
   pub start : Start
 
--- a lane: its floor, what it has done, its tokens on their wires, and for how many clients more it has room
+-- a lane: its floor, what it has done, its tokens on their wires with the free records for more, and for how many
+-- grants more it has room, beside one for each token
 pub record LaneValue : Type 0 where
   pub home : FloorValue
   pub view : View
@@ -40,12 +41,20 @@ empty_lane home quota = record {
   room = 0;
 }
 
--- the lane with room for n clients at least, and as many free records of its yard
-abbrev pub with_room : ℕ → LaneValue → LaneValue
-with_room n lane = record lane {
-  yard = record { lists = lane.yard.lists; spare = max n lane.yard.spare };
+-- the lane with room for n grants at least, and at least so many free records of its yard
+abbrev pub with_rooms : ℕ → ℕ → LaneValue → LaneValue
+with_rooms n records lane = record lane {
+  yard = record { lists = lane.yard.lists; spare = max records lane.yard.spare };
   room = max n lane.room;
 }
+
+-- the lane with room for n clients at least: for their grants, and as many free records of its yard
+abbrev pub with_room : ℕ → LaneValue → LaneValue
+with_room n lane = with_rooms n n lane
+
+-- for how many clients it has room: for their grants, and a free record for each
+abbrev pub room_of : LaneValue → ℕ
+room_of lane = min lane.room lane.yard.spare
 
 -- a client is let in by an entry: its token stands last on the entry's wire, and all others where they stood
 pub record LetsIn (old new : LaneValue) (token client entry : ℕ) : Type 0 where

@@ -33,7 +33,7 @@ use cn_wiring::Counting;
 use counters::Counters;
 pub use lane::Lane;
 pub use leftovers::Leftovers;
-pub use naming::pass_alone;
+pub use naming::walk_one;
 use opening::{yard_for, zeros};
 pub use quiet::Quiet;
 pub use receipts::Receipts;
@@ -48,9 +48,9 @@ pub use words::Words;
 /// client comes in, passes a balancer and leaves by one atomic add each, without a lock.
 ///
 /// A lane belongs to the floor that made it, and each call has the condition that its lanes are its own. Only
-/// [`Floor::open`] and its like, [`Floor::close`], [`Floor::close_for`], and a [`Floor::join`], a [`Floor::enter`], a
-/// [`Floor::name`] or a [`Floor::name_all`] without room take memory. Lanes can be sent to threads, and a floor can be
-/// shared by them.
+/// [`Floor::open`] and its like, [`Floor::close`], [`Floor::close_for`], a [`Floor::join`], a [`Floor::name`] or a
+/// [`Floor::name_all`] without room, and a [`Floor::enter`] without room or a free record take memory. Lanes can be
+/// sent to threads, and a floor can be shared by them.
 pub struct Floor<'a> {
     alloc: Global,
     /// How many clients came before it began.

@@ -1,6 +1,6 @@
 //! A worker that is held before one of its steps while two clients of another lane walk out: what they meet shows which
-//! steps the worker has made. So it asks before a step, not after it: when it lets a client in, when its only token
-//! passes a balancer, and when it sweeps a wire.
+//! steps the worker has made. So it asks before a step, not after it: when it lets a client in, when a client that walks
+//! by itself passes a balancer or leaves, and when it sweeps a wire.
 
 ghost use Rattle.std.specs.Prelude.{◌≡◌, IfSome};
 

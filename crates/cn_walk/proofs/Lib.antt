@@ -1,6 +1,5 @@
 pub mod Walks
 pub mod Ordered
-mod Alone
 pub mod SweptWalks
-mod Halves
+mod Parts
 mod Runs

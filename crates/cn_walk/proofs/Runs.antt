@@ -16,7 +16,7 @@ use Rattle.cn_floor.specs.declared.view.View.{View}
 use Rattle.cn_floor.specs.Carried.{WordsValue, client_count, words_before, zero_words}
 use Rattle.cn_floor.specs.Closing.{IsMissing}
 use Rattle.cn_floor.specs.Ends.{IsClosedFloor, QuietValue}
-use Rattle.cn_walk.specs.Halves.{HasNothing, IsReady, first_position}
+use Rattle.cn_walk.specs.Parts.{HasNothing, IsReady, first_position}
 use Rattle.cn_floor.specs.Lane.{FloorValue, IsIdle, LaneValue, empty_lane}
 use Rattle.cn_walk.specs.Runs.{IsRun, IsRunAfter}
 use Rattle.cn_floor.specs.Views.{base}
@@ -125,8 +125,8 @@ from-zero network clients q is =
 -- ---- in order
 
 -- a lane that is ready for all whom its floor may let in is the sole one
-pub new-sole : (home : FloorValue) (k : ℕ) (a : LaneValue) → home.start.quota ≡ k → IsReady home k a → IsSole a
-new-sole home k a whole ready = record {
+pub new-sole : (home : FloorValue) (k hand : ℕ) (a : LaneValue) → home.start.quota ≡ k → IsReady home k hand a → IsSole a
+new-sole home k hand a whole ready = record {
   quota = omega (arith, whole, ready.quota, ap (λ (h : FloorValue). h.start.quota) ready.home_is);
   names = subst (λ (gs : List Grant). IsEachBelow (length gs) (map (λ (g : Grant). g.name) gs)) (sym ready.nothing.grants)
       (IsPermutation-refl []);

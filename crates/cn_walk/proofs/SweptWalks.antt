@@ -7,7 +7,7 @@ use Rattle.cn_wiring.specs.declared.end.End.{End}
 use Rattle.cn_wiring.specs.declared.end.End.TheVariants.{Balancer, Exit}
 use Rattle.cn_wiring.specs.Table.{IsWellFormed, LeadsOn, Stands, Table, end_of, output_wire}
 use Rattle.cn_ledger.specs.declared.client.Client.{Client}
-use Rattle.cn_yard.specs.Lists.{IsThere, on, times_in}
+use Rattle.cn_yard.specs.Lists.{IsThere, on, times_in, tokens_in}
 use Rattle.cn_floor.specs.declared.view.Grant.{Grant}
 use Rattle.cn_floor.specs.declared.view.Start.{Start}
 use Rattle.cn_floor.specs.declared.view.Sweep.{Sweep}
@@ -159,6 +159,7 @@ module _ (a b : LaneValue) (wire n : ℕ) (answer : Sweep) (formed : IsWellForme
           home = is.home;
           quota = omega (arith, ap (λ (x : View). x.quota) view, like.quota);
           room = omega (arith, is.room);
+          records = kept e (subst (λ (x : End). PutsAll a.home.start wire x n a.yard b.yard) ends is.yard);
           entries = ap (λ (x : View). x.entries) view ∙ like.entries ∙ sym (append-nil v.entries);
           came = ap (λ (x : View). x.came) view ∙ like.came ∙ sym (append-nil v.came);
           seen = ap (λ (x : View). x.seen) view ∙ like.seen;
@@ -167,6 +168,11 @@ module _ (a b : LaneValue) (wire n : ℕ) (answer : Sweep) (formed : IsWellForme
         omega (arith, ap steps_left view, less a.home.start wire e formed inside ends stands tokens v n all some-tokens),
       )
     where
+      kept : (e : End) → PutsAll a.home.start wire e n a.yard b.yard
+          → tokens_in a.yard.lists + a.yard.spare ≤ tokens_in b.yard.lists + b.yard.spare
+      kept (Balancer c) dealt = omega (arith, dealt.tokens, dealt.spare)
+      kept (Exit i) gone = omega (arith, gone.tokens, gone.spare)
+
       weighed : (e : End) (ends : end_of a.home.start.network.table wire ≡ e) (stands : Stands a.home.start.network.table e)
           → b.view ≡ after_sweep wire e n v → (f : ℕ → ℕ)
           → inside_by f b.view + out-by f e tokens ≡ inside_by f v

@@ -9,10 +9,11 @@ use Rattle.cn_wiring.specs.declared.end.End.{End}
 use Rattle.cn_wiring.specs.declared.end.End.TheVariants.{Balancer, Exit}
 use Rattle.cn_wiring.specs.Table.{IsWellFormed, output_wire}
 use Rattle.cn_ledger.specs.declared.client.Client.{Client}
-use Rattle.cn_yard.specs.Lists.{IsThere, last_on, on, standing, times_in, tokens_in, without}
+use Rattle.cn_yard.specs.Lists.{IsThere, Yard, last_on, on, standing, times_in, tokens_in, without}
 use Rattle.cn_floor.specs.declared.view.Grant.{Grant}
 use Rattle.cn_floor.specs.declared.view.View.{View}
 use Rattle.cn_floor.specs.Lane.{LaneValue, LetsIn}
+use Rattle.cn_floor.specs.Named.{IsNamed}
 use Rattle.cn_floor.specs.Views.{after_enter, after_step, on_in}
 use Rattle.cn_walk.specs.Walks.{WalksAll, Walks, inside_by, steps_left}
 use Rattle.cn_floor.proofs.CallerLemmas.{Lands, at-none, at-one, inside-yard, none-on, ones, weigh-come, weigh-leave, weigh-pass, weighed-went}
@@ -23,6 +24,7 @@ stays a = record {
   home = refl;
   quota = omega arith;
   room = omega arith;
+  records = omega arith;
   entries = sym (append-nil a.view.entries);
   came = sym (append-nil a.view.came);
   seen = refl;
@@ -43,6 +45,7 @@ walks-on a b c xs ys p q =
       home = q.home ∙ p.home;
       quota = omega (arith, p.quota, q.quota, length-both xs ys);
       room = omega (arith, p.room, q.room, length-both xs ys);
+      records = omega (arith, p.records, q.records);
       entries = q.entries ∙ ap (λ (es : List ℕ). es ++ map entry ys) p.entries ∙ append_assoc a.view.entries (map entry xs) (map entry ys)
           ∙ ap (λ (es : List ℕ). a.view.entries ++ es) (sym (map-append entry xs ys));
       came = q.came ∙ ap (λ (cs : List Client). cs ++ ys) p.came ∙ append_assoc a.view.came xs ys;
@@ -93,6 +96,7 @@ comes a b token client entry formed held some low is =
       home = is.home;
       quota = omega (arith, some, ap (λ (v : View). v.quota) is.view);
       room = omega (arith, is.room);
+      records = omega (arith, is.yard.tokens, is.yard.spare);
       entries = ap (λ (v : View). v.entries) is.view;
       came = ap (λ (v : View). v.came) is.view;
       seen = ap (λ (v : View). v.seen) is.view;
@@ -103,7 +107,21 @@ comes a b token client entry formed held some low is =
       );
     }
 
--- the next client of a list comes in
+-- a client is named, with nobody inside before and after
+pub names-one : (a b : LaneValue) (client entry name : ℕ) → IsNamed a b client entry name → ((f : ℕ → ℕ) → inside_by f a.view ≡ 0)
+    → ((f : ℕ → ℕ) → inside_by f b.view ≡ 0) → Walks a b (record { id = client; entry = entry } ∷ [])
+names-one a b client entry name is before after = record {
+  home = is.home;
+  quota = omega (arith, is.quota);
+  room = omega (arith, is.room);
+  records = omega (arith, ap (λ (y : Yard). tokens_in y.lists) is.yard, ap (λ (y : Yard). y.spare) is.yard);
+  entries = is.entries;
+  came = is.came;
+  seen = is.seen;
+  grants = (_, is.grants, λ f. omega (arith, before f, after f));
+}
+
+-- the next client of a list walks
 pub comes-next : (a b c : LaneValue) (i : ℕ) (d : Client) (xs : List Client) → i < length xs → Walks a b (take i xs)
     → Walks b c (record { id = (get_or xs i d).id; entry = (get_or xs i d).entry } ∷ []) → Walks a c (take (i + 1) xs)
 comes-next a b c i d xs l p is =
@@ -194,6 +212,7 @@ walked a b xs w out before after =
       out = out;
       quota = w.quota;
       room = w.room;
+      spare = omega (arith, w.records, out);
       entries = w.entries;
       came = w.came;
       seen = w.seen;

@@ -21,6 +21,7 @@ pub record WalksAll (old new : LaneValue) (clients : List Client) : Type 0 where
   pub out : tokens_in new.yard.lists ≡ 0
   pub quota : new.view.quota + length clients ≡ old.view.quota
   pub room : new.room ≡ old.room - length clients
+  pub spare : old.yard.spare ≤ new.yard.spare
   pub entries : new.view.entries ≡ old.view.entries ++ map (λ c. c.entry) clients
   pub came : new.view.came ≡ old.view.came ++ clients
   pub seen : new.view.seen ≡ old.view.seen
@@ -60,6 +61,8 @@ pub record Walks (old new : LaneValue) (clients : List Client) : Type 0 where
   pub home : new.home ≡ old.home
   pub quota : new.view.quota + length clients ≡ old.view.quota
   pub room : new.room ≡ old.room - length clients
+  -- no record is lost, of those for the clients inside and those that are free
+  pub records : tokens_in old.yard.lists + old.yard.spare ≤ tokens_in new.yard.lists + new.yard.spare
   pub entries : new.view.entries ≡ old.view.entries ++ map (λ c. c.entry) clients
   pub came : new.view.came ≡ old.view.came ++ clients
   pub seen : new.view.seen ≡ old.view.seen

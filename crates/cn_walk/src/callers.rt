@@ -22,7 +22,7 @@ use std::thread::Threads;
 /// ([`crate::walk_all`]). Of k clients, worker j of n has those at the positions from `j * k / n` up to, not including,
 /// `(j + 1) * k / n`, both rounded down; one that has none gets no lane and no thread. All lanes are made, and their
 /// memory is reserved, before the first worker starts. One worker starts no thread, and a fork that gets no thread has
-/// its halves walk one after the other.
+/// its parts walk one after the other.
 ///
 /// It returns only if the gate lets each worker on. A gate that waits for another worker may never do so, if that
 /// worker gets no thread. It is [`run_epoch_after`] of words that are all 0.

@@ -2,7 +2,7 @@
 
 ghost use Rattle.std.specs.Prelude.{◌≡◌, ◌+◌, ◌-◌, ◌*◌, ◌/◌, ◌<◌, ◌≤◌, All, IfSome, length};
 ghost use Rattle.cn_spec.specs.declared.limits.TheConstants.{MOST_NAMED};
-ghost use Rattle.cn_walk.specs.Halves.{AreOf, AreReady, HasNothing, IsOne, IsPair, MayWalk, first_position, whole};
+ghost use Rattle.cn_walk.specs.Parts.{AreOf, AreReady, HasNothing, IsOne, IsPair, MayWalk, first_position, whole};
 ghost use Rattle.cn_walk.specs.Walks.{GrantsInOrder, IsSole, WalksAll};
 ghost use denote.Param.Send.{IsSync};
 
@@ -20,8 +20,8 @@ use std::thread::Threads;
 pub(crate) enum Lanes {
     /// One worker's lane, and its number.
     One(Lane, u32),
-    /// The number of clients of the first half, and the halves.
-    Halves(u32, Box<Lanes>, Box<Lanes>),
+    /// The number of clients of the first part of the workers, and the lanes of both parts.
+    Fork(u32, Box<Lanes>, Box<Lanes>),
 }
 
 /// The position of a worker's first client among all; that of the worker after the last is the number of clients.
@@ -33,63 +33,66 @@ fn first_position(clients: u32, workers: u32, worker: u32) -> u32
     (u64::from(worker) * u64::from(clients) / u64::from(workers)) as u32
 }
 
-/// Makes the lanes of the workers from `from` up to, not including, `to`, out of one, and reserves their memory: each
-/// has quota and room for its own clients, and of two halves the first has room for the grants of both. Workers
-/// without clients get no lane; if none of these has clients, the first one has the lane. `None` if memory is refused.
+/// Makes the lanes of the crew's workers from `from` up to, not including, `to`, out of one, and reserves their memory:
+/// each has quota and room for its own clients, and records for a hand of them, and of a fork's two parts the first has
+/// room for the grants of both. The second part has about a quarter of the workers, and one at least, so that few
+/// grants are there twice while it is joined to the first. Workers without clients get no lane; if none of these has
+/// clients, the first one has the lane. `None` if memory is refused.
 pub(crate) fn make_lanes<'a>(
     alloc: Global,
     floor: &Floor<'a>,
     mut lane: Lane,
     clients: u32,
-    workers: u32,
+    crew: Crew,
     from: u32,
     to: u32,
 ) -> Option<Lanes>
     requires own { lane.home ≡ floor.now }
-    requires range { (from < to) × (to ≤ workers) × (clients ≤ MOST_NAMED) }
+    requires range { (from < to) × (to ≤ crew.workers) × (clients ≤ MOST_NAMED) }
     requires nothing { HasNothing lane }
-    requires quota { first_position clients workers to - first_position clients workers from
+    requires quota { first_position clients crew.workers to - first_position clients crew.workers from
         ≤ lane.view.quota }
-    ensures ready { IfSome result (λ lanes.
-        AreReady floor.now (first_position clients workers to - first_position clients workers from) lanes) }
-    ensures workers { IfSome result (λ lanes. AreOf clients workers from to lanes) }
+    ensures ready { IfSome result (λ lanes. AreReady floor.now
+        (first_position clients crew.workers to - first_position clients crew.workers from) crew.hand lanes) }
+    ensures workers { IfSome result (λ lanes. AreOf clients crew.workers from to lanes) }
     ensures room { IfSome result (λ lanes. lane.room ≤ (whole lanes).room) }
+    ensures spare { IfSome result (λ lanes. lane.yard.spare ≤ (whole lanes).yard.spare) }
 {
-    let first = first_position(clients, workers, from);
-    let own = first_position(clients, workers, to) - first;
-    let Ok(()) = lane.reserve(u64::from(own)) else {
+    let first = first_position(clients, crew.workers, from);
+    let own = first_position(clients, crew.workers, to) - first;
+    let Ok(()) = lane.reserve_apart(u64::from(own), u64::from(own.min(crew.hand))) else {
         return None;
     };
     if own == 0 || to - from == 1 {
         return Some(Lanes::One(lane, from));
     }
-    let middle = from + (to - from) / 2;
-    let at = first_position(clients, workers, middle) - first;
+    let middle = to - 1 - (to - from - 2) / 4;
+    let at = first_position(clients, crew.workers, middle) - first;
     if at == 0 {
-        return make_lanes(alloc, floor, lane, clients, workers, middle, to);
+        return make_lanes(alloc, floor, lane, clients, crew, middle, to);
     }
     if at == own {
-        return make_lanes(alloc, floor, lane, clients, workers, from, middle);
+        return make_lanes(alloc, floor, lane, clients, crew, from, middle);
     }
     let Ok((lane, other)) = floor.split(lane, u64::from(own - at)) else {
         return None;
     };
-    let left = make_lanes(alloc, floor, lane, clients, workers, from, middle)?;
-    let right = make_lanes(alloc, floor, other, clients, workers, middle, to)?;
+    let left = make_lanes(alloc, floor, lane, clients, crew, from, middle)?;
+    let right = make_lanes(alloc, floor, other, clients, crew, middle, to)?;
     pair(alloc, at, left, right)
 }
 
-/// Two halves.
+/// A fork of two parts.
 fn pair(alloc: Global, at: u32, left: Lanes, right: Lanes) -> Option<Lanes>
     ensures { IfSome result (λ lanes. IsPair at left right lanes) }
 {
     let left = Box::new(alloc, left).ok()?;
     let right = Box::new(alloc, right).ok()?;
-    Some(Lanes::Halves(at, left, right))
+    Some(Lanes::Fork(at, left, right))
 }
 
-/// Walks the clients through the lanes, the first half in a thread of its own beside the second, and joins the lanes.
-/// If no thread can be had the halves are walked one after the other. A single lane is walked here.
+/// Walks the clients through the lanes, the first part of a fork in a thread of its own beside the second, and joins
+/// the lanes. If no thread can be had the parts are walked one after the other. A single lane is walked here.
 pub(crate) fn walk_lanes<F: SharedFloor + Sync, G: Gate + Sync, R: Threads + Wait + Sync>(
     rt: &R,
     floor: &F,
@@ -98,7 +101,7 @@ pub(crate) fn walk_lanes<F: SharedFloor + Sync, G: Gate + Sync, R: Threads + Wai
     crew: Crew,
     gate: &G,
 ) -> Lane
-    requires ready { AreReady (F.home floor.now) (length clients.now) lanes }
+    requires ready { AreReady (F.home floor.now) (length clients.now) crew.hand lanes }
     requires entries { All (λ c.
         c.entry < (F.home floor.now).start.network.table.entries) clients.now }
     requires hand { 0 < crew.hand }
@@ -111,7 +114,7 @@ pub(crate) fn walk_lanes<F: SharedFloor + Sync, G: Gate + Sync, R: Threads + Wai
             let number = crew.first.wrapping_add(worker);
             walk_all(rt, floor.floor(), lane, clients, crew.hand, gate, number)
         }
-        Lanes::Halves(at, left, right) => {
+        Lanes::Fork(at, left, right) => {
             let left = Box::into_inner(left);
             let right = Box::into_inner(right);
             let (first, second) = clients.split_at(at as usize);

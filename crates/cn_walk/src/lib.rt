@@ -11,8 +11,8 @@ mod walking;
 pub use callers::{run_epoch, run_epoch_after};
 // The older names of these types: they stand in cn_floor.
 pub use cn_floor::{
-    CloseFault, ClosedFloor, Floor, Gate, Grant, JoinFault, Lane, LaneFault, Leftovers, Moment,
-    OpenFault, OpenGate, Opening, Passage, Quiet, Receipts, SplitFault, Start, Sweep, View, Words,
+    CloseFault, Floor, Gate, Grant, JoinFault, Lane, LaneFault, Moment, OpenFault, OpenGate, Quiet,
+    SplitFault, Sweep, Words,
 };
 pub use crew::Crew;
 pub use runner::Runner;

@@ -67,7 +67,7 @@ impl<'a> Runner<'a> {
     /// next epoch, and the closed floor. Of k clients, worker j of n has those at the positions from `j * k / n` up to,
     /// not including, `(j + 1) * k / n`, both rounded down; one that has none gets no lane and no thread. All lanes are
     /// made, and their memory is reserved, before the first worker starts. One worker starts no thread, and a fork that
-    /// gets no thread has its halves walk one after the other. It returns only if the gate lets each worker on.
+    /// gets no thread has its parts walk one after the other. It returns only if the gate lets each worker on.
     ///
     /// # Errors
     /// The first that stands: `Workers`, `Hand`, `TooMany`, `NoSuchEntry`, `Memory`. Then the words are as they were,

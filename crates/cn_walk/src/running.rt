@@ -85,8 +85,8 @@ pub(crate) fn walk_floor<'a, G: Gate + Sync, R: Threads + Wait + Sync>(
     ensures leftovers { IfOk result (λ r. r.1.words ≡ words_before floor.entry.start) }
     ensures back { IfErr result (λ back. back.words ≡ words_before floor.entry.start) }
 {
-    let (many, workers) = (clients.len() as u32, crew.workers);
-    let Some(lanes) = make_lanes(alloc, &floor, lane, many, workers, 0, workers) else {
+    let many = clients.len() as u32;
+    let Some(lanes) = make_lanes(alloc, &floor, lane, many, crew, 0, crew.workers) else {
         return Err(floor.give_up());
     };
     let lane = walk_lanes(rt, &floor, lanes, clients, crew, gate);

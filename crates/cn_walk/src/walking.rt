@@ -1,11 +1,10 @@
 //! A worker that walks its clients through one lane.
 
-ghost use Rattle.std.specs.Prelude.{◌≡◌, ℕ, ◌+◌, ◌<◌, ◌≤◌, [], All, length};
-ghost use Rattle.cn_yard.specs.Lists.{IsLowest, tokens_in};
-ghost use Rattle.cn_floor.specs.Steps.{StoodInState};
-ghost use Rattle.cn_walk.specs.Walks.{GrantsInOrder, IsSole, WalksAll, Walks, inside_by, steps_left};
+ghost use Rattle.std.specs.Prelude.{◌≡◌, ℕ, ◌+◌, ◌<◌, ◌≤◌, [], All, length, min};
+ghost use Rattle.cn_yard.specs.Lists.{tokens_in};
+ghost use Rattle.cn_walk.specs.Walks.{GrantsInOrder, IsSole, WalksAll, Walks, inside_by};
 
-use cn_floor::{Floor, Gate, Lane, Moment, pass_alone};
+use cn_floor::{Floor, Gate, Lane, Moment, walk_one};
 use cn_ledger::Client;
 use cn_wiring::End;
 use std::sync::Wait;
@@ -24,9 +23,9 @@ fn walk_in<'a, G: Gate, R: Wait>(
     requires entries { All (λ c. c.entry < floor.now.start.network.table.entries) clients.now }
     requires quota { length clients.now ≤ lane.old.view.quota }
     requires room { length clients.now ≤ lane.old.room }
+    requires spare { length clients.now ≤ lane.old.yard.spare }
     requires hand { tokens_in lane.old.yard.lists + length clients.now ≤ _hand }
     ensures walked { Walks lane.old lane.new clients.now }
-    ensures in_state { 0 < length clients.now → StoodInState floor.now.start lane.new.view }
 {
     floor.start_laws();
     for client in clients {
@@ -38,31 +37,6 @@ fn walk_in<'a, G: Gate, R: Wait>(
     }
 }
 
-/// The lowest wire that has a token, once a token that is alone in the lane has passed all balancers on its way; else
-/// `lowest`, which is that wire. The only token's wire is in a local, and its sweeps would be the same steps.
-fn bring_on<'a, G: Gate, R: Wait>(
-    rt: &R,
-    floor: &Floor<'a>,
-    lane: &mut Lane,
-    lowest: u32,
-    gate: &G,
-    worker: u32,
-) -> u32
-    requires own { lane.old.home ≡ floor.now }
-    requires lowest { IsLowest lane.old.yard.lists lowest }
-    ensures walked { Walks lane.old lane.new [] }
-    ensures lowest { IsLowest lane.new.yard.lists result }
-    ensures left { steps_left lane.new.view ≤ steps_left lane.old.view }
-{
-    if lane.inside() == 1 {
-        let wire = pass_alone(rt, floor, lane, lowest, gate, worker);
-        lane.lane_laws();
-        wire
-    } else {
-        lowest
-    }
-}
-
 /// Sweeps the lowest wire that has a token, until nobody is inside. Tokens go on to greater wires, so none stands below
 /// the wire that was swept last.
 fn walk_out<'a, G: Gate, R: Wait>(rt: &R, floor: &Floor<'a>, lane: &mut Lane, gate: &G, worker: u32)
@@ -70,13 +44,10 @@ fn walk_out<'a, G: Gate, R: Wait>(rt: &R, floor: &Floor<'a>, lane: &mut Lane, ga
     ensures walked { Walks lane.old lane.new [] }
     ensures out { tokens_in lane.new.yard.lists ≡ 0 }
     ensures nobody { (f : ℕ → ℕ) → inside_by f lane.new.view ≡ 0 }
-    ensures in_state { StoodInState floor.now.start lane.old.view → StoodInState floor.now.start lane.new.view }
 {
     lane.lane_laws();
     let mut from = 0;
-    while let Some(lowest) = lane.lowest_from(from) {
-        let wire = bring_on(rt, floor, lane, lowest, gate, worker);
-        lane.lane_laws();
+    while let Some(wire) = lane.lowest_from(from) {
         let moment = match floor.network().end(wire) {
             End::Balancer(_) => Moment::Pass,
             End::Exit(_) => Moment::Leave,
@@ -88,13 +59,40 @@ fn walk_out<'a, G: Gate, R: Wait>(rt: &R, floor: &Floor<'a>, lane: &mut Lane, ga
     }
 }
 
+/// Walks the clients through the lane, one after the other.
+fn walk_each<'a, G: Gate, R: Wait>(
+    rt: &R,
+    floor: &Floor<'a>,
+    mut lane: Lane,
+    clients: &[Client],
+    gate: &G,
+    worker: u32,
+) -> Lane
+    requires own { lane.home ≡ floor.now }
+    requires out { tokens_in lane.yard.lists ≡ 0 }
+    requires entries { All (λ c. c.entry < floor.now.start.network.table.entries) clients.now }
+    requires quota { length clients.now ≤ lane.view.quota }
+    requires room { length clients.now ≤ lane.room }
+    ensures walked { WalksAll lane result clients.now }
+    ensures in_order { IsSole lane → GrantsInOrder lane result clients.now }
+{
+    floor.start_laws();
+    lane.lane_laws();
+    for client in clients {
+        let _name = walk_one(rt, floor, &mut lane, *client, gate, worker);
+        lane.lane_laws();
+    }
+    lane
+}
+
 /// Walks all clients through the lane, in order: the next come in until `hand` are inside or none is left; then, until
-/// nobody is inside, all tokens on the lowest wire that has one go by its end in a sweep; and so on until no client is
+/// nobody is inside, all tokens on the lowest wire that has one go by its end in one step; and so on until no client is
 /// left. It asks the gate before each of its atomic steps, in the worker's name.
 ///
-/// Nobody is inside before; the lane's room and quota are at least the number of clients, each entry is one of the
-/// network's, and `hand` is at least 1. It takes no memory and refuses nothing, but returns only if the gate lets it
-/// on.
+/// Nobody is inside before; the lane's quota and room ([`Lane::room`]) are at least the number of clients, or it has
+/// room for as many grants, and a free record for each who is inside at once: for that number, or `hand` if it is less.
+/// Each entry is one of the network's, and `hand` is at least 1. It takes no memory and refuses nothing, but returns
+/// only if the gate lets it on.
 ///
 /// With one client in hand, in a lane that has the whole quota of its floor, the clients get the next names in their
 /// order.
@@ -112,11 +110,14 @@ pub fn walk_all<'a, G: Gate, R: Wait>(
     requires entries { All (λ c. c.entry < floor.now.start.network.table.entries) clients.now }
     requires quota { length clients.now ≤ lane.view.quota }
     requires room { length clients.now ≤ lane.room }
+    requires spare { min (length clients.now) hand ≤ lane.yard.spare }
     requires hand { 0 < hand }
     ensures walked { WalksAll lane result clients.now }
     ensures in_order { hand ≡ 1 → IsSole lane → GrantsInOrder lane result clients.now }
 {
-    floor.start_laws();
+    if hand == 1 {
+        return walk_each(rt, floor, lane, clients, gate, worker);
+    }
     lane.lane_laws();
     let mut rest = clients;
     while !rest.is_empty() {

@@ -8,7 +8,7 @@ use Rattle.cn_ledger.specs.declared.client.Client.{Client}
 use Rattle.renamer_c.specs.declared.client.Client as c
 use Rattle.cn_yard.specs.Lists.{Yard, tokens_in}
 use Rattle.cn_floor.specs.declared.view.Grant.{Grant}
-use Rattle.cn_floor.specs.Lane.{LaneValue, with_room}
+use Rattle.cn_floor.specs.Lane.{LaneValue, with_rooms}
 use Rattle.cn_floor.specs.Listed.{AreNamed}
 use Rattle.cn_walk.specs.Walks.{WalksAll}
 use Rattle.renamer_c.specs.Many.{AreAllNamed, by_entry, client_from}
@@ -38,6 +38,7 @@ together a b ids entry out room is =
       out = ap (λ (y : Yard). tokens_in y.lists) is.yard ∙ out;
       quota = omega (arith, is.quota, long);
       room = omega (arith, is.room, long);
+      spare = omega (arith, ap (λ (y : Yard). y.spare) is.yard);
       entries = is.entries ∙ ap (λ (es : List ℕ). a.view.entries ++ es) (sym (entries_by entry ids));
       came = is.came;
       seen = is.seen;
@@ -55,6 +56,7 @@ more a b c xs ys was is =
       out = is.out;
       quota = omega (arith, was.quota, is.quota, length-append xs ys);
       room = omega (arith, was.room, is.room, length-append xs ys);
+      spare = omega (arith, was.spare, is.spare);
       entries = is.entries ∙ ap (λ (es : List ℕ). es ++ map at ys) was.entries ∙ append_assoc a.view.entries (map at xs) (map at ys)
           ∙ ap (λ (es : List ℕ). a.view.entries ++ es) (sym (map-append at xs ys));
       came = is.came ∙ ap (λ (cs : List Client). cs ++ ys) was.came ∙ append_assoc a.view.came xs ys;
@@ -105,7 +107,7 @@ by-run (suc n) entry (x ∷ clients) few same =
 
 -- a lane that had less room than was wanted, and got it first, named them all
 pub with-more-room : (a b : LaneValue) (clients : List c.Client) → a.room ≤ length clients
-    → AreAllNamed (with_room (length clients) a) b clients → AreAllNamed a b clients
+    → AreAllNamed (with_rooms (length clients) 0 a) b clients → AreAllNamed a b clients
 with-more-room a b clients less is =
     let long : length (map client_from clients) ≡ length clients = length-map clients client_from in
     record {
@@ -114,6 +116,7 @@ with-more-room a b clients less is =
         out = is.walked.out;
         quota = is.walked.quota;
         room = omega (arith, less, long, is.walked.room);
+        spare = omega (arith, is.walked.spare);
         entries = is.walked.entries;
         came = is.walked.came;
         seen = is.walked.seen;

@@ -13,6 +13,7 @@ use Rattle.renamer_c.specs.declared.held_lane.returning.JoinStop.TheVariants.{No
 use Rattle.renamer_c.specs.declared.refusal.Refusal.{Refusal}
 use Rattle.renamer_c.specs.declared.refusal.Refusal.TheVariants as why
 use Rattle.renamer_c.specs.declared.searches.Search.{Search}
+use Rattle.renamer_c.specs.declared.searches.TheConstants.{MOST_JOINS}
 
 -- where a lane ends that is handed back: it is at its place; or its floor, of which it was the only lane, is here; or
 -- it is here, since its place was not its own
@@ -40,4 +41,4 @@ IsStatusOfJoin lane status = (s : JoinStop) × (status ≡ status_of_refusal (re
 
 -- each lane was taken in that a search found which went through all places; or lanes were found for centuries
 abbrev pub AreAllIn : Option LaneValue → Option LaneValue → Search → Type 0
-AreAllIn old new s = (n : ℕ) × JoinsTimes n old new × (n ≡ s.found) × (IsWhole s ⊎ (s.found ≡ 18446744073709551615))
+AreAllIn old new s = (n : ℕ) × JoinsTimes n old new × (n ≡ s.found) × (IsWhole s ⊎ (s.found ≡ MOST_JOINS))

@@ -5,6 +5,8 @@ use Rattle.renamer_c.specs.Placing.{IsPlaceOf}
 use Rattle.renamer_c.specs.Returns.{IsBack}
 use Rattle.renamer_c.specs.declared.places.Place.{Place}
 use Rattle.renamer_c.specs.declared.reading_rows.Unread.{Unread}
+use Rattle.renamer_c.specs.declared.reading_rows.TheConstants.{MOST_LOOKS}
+use Rattle.renamer_c.specs.declared.searches.TheConstants.{MOST_SEARCHES}
 use Rattle.renamer_c.specs.declared.searches.EmptyGroup.{EmptyGroup}
 use Rattle.renamer_c.specs.declared.searches.EmptyRow.{EmptyRow}
 use Rattle.renamer_c.specs.declared.searches.NoneBack.{NoneBack}
@@ -20,7 +22,7 @@ IsTakenOf floor t = IsBack floor t.0.lane × IsPlaceOf floor t.1
 -- threads for centuries
 abbrev pub IsNoRow : ℕ → Unread → Type 0
 IsNoRow at s = (s.at ≡ at) × ((s.word % 4 ≢ 1) ⊎ ((1073741823 ≤ s.word / 4) ⊎ ((s.full ≡ true)
-    ⊎ (s.looks ≡ 18446744073709551615))))
+    ⊎ (s.looks ≡ MOST_LOOKS))))
 
 -- none of the places of this row was counted in this state
 pub record IsEmptyRow (row state : ℕ) (e : EmptyRow) : Type 0 where
@@ -62,4 +64,4 @@ pub record IsWhole (s : Search) : Type 0 where
 -- why no lane is taken: a whole search found none, and no lane was handed back meanwhile; or so it was for centuries
 abbrev pub IsNoneBack : NoneBack → Type 0
 IsNoneBack (Searched s now) = IsWhole s × (s.found ≡ 0) × (now ≡ s.returns)
-IsNoneBack (Late s) = s.earlier ≡ 18446744073709551615
+IsNoneBack (Late s) = s.earlier ≡ MOST_SEARCHES

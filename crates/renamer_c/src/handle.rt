@@ -32,6 +32,7 @@ impl Handle {
     ghost use Rattle.renamer_c.specs.Refusals.{NotThere};
     ghost use Rattle.renamer_c.specs.declared.held.Held.TheVariants.{Lane};
 
+    /// A handle that has nothing.
     fn none(alloc: Global) -> Handle
         ensures { result.held ≡ None }
     {
@@ -41,6 +42,7 @@ impl Handle {
         }
     }
 
+    /// A handle that has what is in this box.
     fn of(value: Loose<Held, Global>) -> Handle
         ensures { result.held ≡ Some value.value }
     {
@@ -51,6 +53,7 @@ impl Handle {
         }
     }
 
+    /// The box of what it has, as its pointer.
     fn into_loose(self) -> Option<Loose<Held, Global>>
         ensures { MatchOption result (self.held ≡ None) (λ b. self.held ≡ Some b.value) }
     {
@@ -65,6 +68,7 @@ impl Handle {
         }
     }
 
+    /// The box of what it has.
     fn into_box(self) -> Option<Box<Held>>
         ensures { MatchOption result (self.held ≡ None) (λ b. self.held ≡ Some b.value) }
     {

@@ -80,6 +80,7 @@ impl HeldLane {
         requires own { arc_value floor ≡ Some lane.home }
         requires most { most ≡ lane.home.start.quota }
         requires place { IsPlaceOf lane.home place }
+        requires spare { lane.room ≤ lane.yard.spare }
         ensures { result ≡ lane }
     {
         HeldLane {
@@ -102,6 +103,7 @@ impl HeldLane {
     ) -> Result<HeldLane, Refusal>
         requires own { lane.home ≡ floor }
         requires most { most ≡ lane.home.start.quota }
+        requires spare { lane.room ≤ lane.yard.spare }
         ensures ok { IfOk result (λ held. held ≡ lane) }
         ensures memory { IfErr result (λ r. r ≡ Refusal.Memory) }
     {

@@ -21,6 +21,7 @@ pub(crate) struct Returned {
 }
 
 impl Returned {
+    /// The lane that is in this box.
     pub(crate) fn of(boxed: Box<Kept>) -> Returned
         ensures { result.boxed.value ≡ boxed.value }
     {
@@ -29,6 +30,7 @@ impl Returned {
         }
     }
 
+    /// The box again.
     pub(crate) fn into_boxed(self) -> Box<Kept>
         ensures { result.value ≡ self.boxed.value }
     {

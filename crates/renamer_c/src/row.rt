@@ -21,6 +21,7 @@ pub(crate) struct Counts {
 }
 
 impl Counts {
+    /// The counts of a group with no place in either state.
     pub(crate) fn new() -> Counts {
         Counts {
             back: AtomicU64::new(0),

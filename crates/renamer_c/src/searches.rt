@@ -3,7 +3,7 @@
 //! place, or at a count of it.
 
 ghost use Rattle.std.specs.Arc.{arc_value};
-ghost use Rattle.std.specs.Prelude.{◌≡◌, ◌+◌, ◌<◌, ◌≤◌, IfErr, IfOk, IfSome, length};
+ghost use Rattle.std.specs.Prelude.{◌≡◌, ◌+◌, ◌^◌, ◌<◌, ◌≤◌, IfErr, IfOk, IfSome, length};
 ghost use Rattle.renamer_c.specs.Looking.{IsEmptyGroup, IsEmptyRow, IsNewSearch, IsNoRow, IsNoneBack, IsWhole};
 ghost use Rattle.renamer_c.specs.Placing.{IsNotIn};
 
@@ -13,6 +13,12 @@ use crate::row::{LEVELS, Row, group_size};
 use crate::turns::Unturned;
 use std::sync::atomic::AtomicU64;
 use std::sync::atomic::Ordering::SeqCst;
+
+/// How many searches are in vain at most because lanes were handed back meanwhile: for centuries.
+pub(crate) const MOST_SEARCHES: u64 = u64::MAX;
+
+/// How many lanes one call takes in at most: for centuries.
+pub(crate) const MOST_JOINS: u64 = u64::MAX;
 
 /// How many places of a row were counted in a state: none.
 #[derive(Drop)]
@@ -140,7 +146,7 @@ impl Search {
     /// Passes a place that was not in the state.
     pub(crate) fn pass(mut self, none: Unturned) -> Search
         requires none { IsNotIn self.on.place self.state none }
-        requires few { self.on.place < 18446744073709551615 }
+        requires few { self.on.place + 1 < 2 ^ 64 }
         ensures { result ≡ record self { on = record { row = self.on.row; place = self.on.place + 1 } } }
     {
         drop(none);
@@ -150,7 +156,7 @@ impl Search {
 
     /// Passes a place that it found, and whose state is changed.
     pub(crate) fn pass_found(mut self) -> Search
-        requires few { (self.on.place < 18446744073709551615) × (self.found < 18446744073709551615) }
+        requires few { (self.on.place + 1 < 2 ^ 64) × (self.found < MOST_JOINS) }
         ensures { result ≡ record self {
           on = record { row = self.on.row; place = self.on.place + 1 };
           found = self.found + 1;
@@ -164,7 +170,7 @@ impl Search {
     /// Passes a group of places.
     pub(crate) fn pass_group(mut self, none: EmptyGroup) -> Search
         requires none { IsEmptyGroup self.on.place self.state none }
-        requires few { self.on.place + none.size < 18446744073709551615 }
+        requires few { self.on.place + none.size < 2 ^ 64 }
         ensures { result ≡ record self { on = record { row = self.on.row; place = self.on.place + none.size } } }
     {
         self.on.place += none.size;
@@ -174,7 +180,7 @@ impl Search {
     /// Passes a row.
     pub(crate) fn pass_row(self, none: EmptyRow) -> Search
         requires none { IsEmptyRow self.on.row self.state none }
-        requires few { self.on.row < 18446744073709551615 }
+        requires few { self.on.row + 1 < 2 ^ 64 }
         ensures { result ≡ record self { on = record { row = self.on.row + 1; place = 0 } } }
     {
         drop(none);
@@ -184,7 +190,7 @@ impl Search {
     /// Passes a row that cannot be read.
     pub(crate) fn pass_unread(self, none: Unread) -> Search
         requires none { IsNoRow self.on.row none }
-        requires few { self.on.row < 18446744073709551615 }
+        requires few { self.on.row + 1 < 2 ^ 64 }
         ensures { result ≡ record self { on = record { row = self.on.row + 1; place = 0 } } }
     {
         drop(none);
@@ -195,15 +201,16 @@ impl Search {
     pub(crate) fn end_row(self, row: ReadRow) -> Search
         requires row { row.at ≡ self.on.row }
         requires all { length (arc_value row.shared.row).places.items ≤ self.on.place }
-        requires few { self.on.row < 18446744073709551615 }
+        requires few { self.on.row + 1 < 2 ^ 64 }
         ensures { result ≡ record self { on = record { row = self.on.row + 1; place = 0 } } }
     {
         drop(row);
         self.next_row()
     }
 
+    /// Goes on to the first place of the next row.
     fn next_row(mut self) -> Search
-        requires { self.on.row < 18446744073709551615 }
+        requires { self.on.row + 1 < 2 ^ 64 }
         ensures { result ≡ record self { on = record { row = self.on.row + 1; place = 0 } } }
     {
         self.on.row += 1;
@@ -218,7 +225,7 @@ impl Search {
     pub(crate) fn end(self, slots: &[RowSlot], returns: &AtomicU64) -> Result<NoneBack, Search>
         requires slots { length slots.now ≡ 26 }
         requires whole { IsWhole self × (self.found ≡ 0) }
-        requires few { self.earlier < 18446744073709551615 }
+        requires few { self.earlier < MOST_SEARCHES }
         ensures none { IfOk result IsNoneBack }
         ensures again { IfErr result (IsNewSearch self.state (self.earlier + 1)) }
     {

@@ -1,17 +1,11 @@
--- The only token of a lane, on its way.
-use Rattle.std.proofs.Common.{◌≡◌, ◌≢◌, ℕ, ◌+◌, ◌*◌, ◌%◌, ◌<◌, ◌≤◌, inl, inr, cond, eqb, true, false, Bool, List, [], ◌∷◌, ◌++◌, length, sum_by, refl, sym, ap, ◌∙◌, subst, arith, Some}
+-- The only token of a view, on its way.
+use Rattle.std.proofs.Common.{◌≡◌, ◌≢◌, ℕ, ◌+◌, ◌*◌, ◌%◌, ◌<◌, ◌≤◌, inl, inr, cond, eqb, true, false, Bool, List, [], ◌∷◌, ◌++◌, length, sum_by, refl, sym, ap, ◌∙◌, subst, arith}
 use Rattle.std.specs.Prelude.{nat_eq}
-use Rattle.cn_floor.proofs.Common.{Balancer, IsAlone, IsLetBy, IsThere, IsWellFormed, LaneValue, LeadsOn, Lists, Stands, Start, Table, View, Yard, after_step, cases_eq, cases_lt, end_of, eq-eqb, get_or_past, lane_of, last_on, length-map-range_with_len, ne_eqb, on, output_wire, sum-below-one, sum-below-part, sum-below-same, times_in, tokens_in, when, without}
-use Rattle.std.proofs.lemmas.List.{nil_from_length}
+use Rattle.cn_floor.proofs.Common.{Balancer, IsAlone, IsLetBy, IsThere, IsWellFormed, LeadsOn, Lists, Stands, Start, Table, View, after_step, cases_eq, end_of, eq-eqb, last_on, length-map-range_with_len, ne_eqb, on, output_wire, sum-below-one, sum-below-same, times_in, when, without}
 use Rattle.std.proofs.lemmas.Nat.{mod_below}
-use Rattle.cn_spec.proofs.CallerLemmas.{sum-below-parts}
-use Rattle.cn_yard.specs.Lists.{Moves, first_of}
-use Rattle.cn_yard.proofs.CallerLemmas.{IsFirst, first-is, first-there, last_on-sum, there-alike}
+use Rattle.cn_yard.proofs.CallerLemmas.{first-there, last_on-sum}
 use Rattle.cn_floor.specs.Alone.{OnlyPassed, PassesOn}
-use Rattle.cn_floor.specs.declared.floor.lane.Lane.TheInside.{Inside}
-use Rattle.cn_floor.proofs.Lists.{made}
 use Rattle.cn_floor.proofs.InStates.Sweeps.{lists-after-on}
-use Rattle.cn_floor.proofs.InLane.Swept.{some-inside}
 
 -- on its wire stands only the token
 pub on-own : (token client wire : ℕ) → last_on token client wire wire ≡ (token, client) ∷ []
@@ -45,45 +39,6 @@ module _ (lists : Lists) (token client wire : ℕ) (is : IsAlone lists token cli
     where
       taken : without token ((token, client) ∷ []) ≡ []
       taken = rw (eq-eqb token token refl) refl
-
--- one token in all, and one on a wire: it stands alone
-pub alone-is : (lists : Lists) (token client wire : ℕ) (rest : List (ℕ × ℕ)) → on lists wire ≡ (token, client) ∷ rest → wire < length lists
-    → tokens_in lists ≡ 1
-    → IsAlone lists token client wire
-alone-is lists token client wire rest begins inside one = record {
-  inside = inside;
-  only = λ u. elim (cases_eq u wire) [
-    | inl e ↦ ap (on lists) e ∙ begins ∙ ap (λ (es : List (ℕ × ℕ)). (token, client) ∷ es) none ∙ sym (on-own token client wire)
-        ∙ ap (last_on token client wire) (sym e)
-    | inr d ↦ nobody u d ∙ sym (off-own token client wire u d)
-  ];
-}
-  where
-    many : ℕ → ℕ
-    many u = length (on lists u)
-
-    here : many wire ≡ 1 + length rest
-    here = omega (arith, ap length begins)
-
-    none : rest ≡ []
-    none = nil_from_length rest (omega (arith, one, here, sum-below-part (length lists) wire many inside))
-
-    nobody : (u : ℕ) → u ≢ wire → on lists u ≡ []
-    nobody u other = elim (cases_lt u (length lists)) [
-      | inl l ↦ nil_from_length (on lists u) (omega
-          (arith, one, here, sum-below-parts (length lists) wire u many inside l (λ e. other (sym e))))
-      | inr l ↦ get_or_past lists u [] l
-    ]
-
--- the first token of a wire, where there is one token in all
-pub alone-first : (y : Yard) (wire token client at : ℕ) → Some token ≡ first_of (on y.lists wire) → 0 < length (on y.lists wire)
-    → tokens_in y.lists ≡ 1
-    → IsThere y.lists token client at → IsAlone y.lists token client wire
-alone-first y wire token client at first some one is =
-    let begins : IsFirst wire y token = first-is wire token y first in
-    let alone = alone-is y.lists token begins.client wire begins.after begins.begins (some-inside y.lists wire some) one in
-    let same = there-alike y.lists token begins.client client wire at (there-alone y.lists token begins.client wire alone) is in
-    subst (λ (k : ℕ). IsAlone y.lists token k wire) same.0 alone
 
 -- it passes a balancer
 module _ (start : Start) (formed : IsWellFormed start.network.table) (v : View) (of : v.start ≡ start)
@@ -162,27 +117,3 @@ passes-more start token client [] wire v at u b n (here, stays) ends by = (
 )
 passes-more start token client (m ∷ ns) wire v at u b n (c, first, went, rest) ends by =
     (c, first, went, passes-more start token client ns _ _ at u b n rest ends by)
-
--- ---- before and after
-
--- lists on which the same token stands alone are the same
-pub alone-alike : (a b : Lists) (token client wire : ℕ) → IsAlone a token client wire → IsAlone b token client wire → length a ≡ length b
-    → a ≡ b
-alone-alike a b token client wire p q long =
-    made b (on b) a long (λ u. p.only u ∙ sym (q.only u)) ∙ sym (made b (on b) b refl (λ _. refl))
-
--- a yard in which it moves
-pub alone-moved : (old new : Yard) (token client wire to : ℕ) → IsAlone old.lists token client wire → to < length old.lists
-    → Moves old new token client to → IsAlone new.lists token client to
-alone-moved old new token client wire to is lands moves = record {
-  inside = omega (arith, moves.wires, lands);
-  only = λ u. moves.lists u ∙ ap (λ (es : List (ℕ × ℕ)). es ++ last_on token client to u) (nobody-else old.lists token client wire is u);
-}
-
--- where a lane has one token, it is the first on its wire
-pub alone-in : (l : Inside) (lane : LaneValue) (wire token client at : ℕ) → lane_of l ≡ lane → Some token ≡ first_of (on l.yard.lists wire)
-    → 0 < length (on lane.yard.lists wire)
-    → tokens_in lane.yard.lists ≡ 1 → IsThere l.yard.lists token client at → IsAlone l.yard.lists token client wire
-alone-in l lane wire token client at is first some one there =
-    alone-first l.yard wire token client at first (subst (λ (k : LaneValue). 0 < length (on k.yard.lists wire)) (sym is) some)
-    (subst (λ (k : LaneValue). tokens_in k.yard.lists ≡ 1) (sym is) one) there

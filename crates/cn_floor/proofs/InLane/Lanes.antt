@@ -40,7 +40,6 @@ module _ (old new : Inside) (token client : ℕ) (kept : IsLane old) (no_slot : 
     small = subst FitsLanes (ap (λ (w : View). w.start) (sym view)) kept.small;
     few = omega (arith, kept.few, yard.tokens);
     room = rw grants (omega (arith, kept.room, yard.tokens));
-    spare = omega (arith, kept.spare, yard.spare);
   }
 
   -- a token passed a balancer
@@ -61,7 +60,6 @@ module _ (old new : Inside) (token client : ℕ) (kept : IsLane old) (no_slot : 
     small = subst FitsLanes (ap (λ (w : View). w.start) (sym view)) kept.small;
     few = omega (arith, kept.few, yard.tokens);
     room = rw grants (omega (arith, kept.room, yard.tokens));
-    spare = omega (arith, kept.spare, yard.spare);
   }
 
   -- a token left
@@ -91,7 +89,6 @@ module _ (old new : Inside) (token client : ℕ) (kept : IsLane old) (no_slot : 
       ap (λ gs. length gs) grants,
       length_push old.grants.items (record { client = client; exit = i; visit = n; name = name }),
     );
-    spare = omega (arith, kept.spare, yard.spare);
   }
 
 -- ---- what a step answers
@@ -135,5 +132,4 @@ lane-with-way l grants kept items room = record {
   small = kept.small;
   few = kept.few;
   room = room;
-  spare = kept.spare;
 }

@@ -186,7 +186,6 @@ module _ (old new : Inside) (wire n : ℕ) (kept : IsLane old) (no_slot : new.se
         small = subst FitsLanes (sym like.start ∙ ap (λ (w : View). w.start) (sym view)) kept.small;
         few = omega (arith, kept.few, dealt.tokens);
         room = rw grants (omega (arith, kept.room, dealt.tokens));
-        spare = omega (arith, kept.spare, dealt.spare);
       }
 
   -- its tokens left
@@ -213,7 +212,6 @@ module _ (old new : Inside) (wire n : ℕ) (kept : IsLane old) (no_slot : new.se
         small = subst FitsLanes (sym like.start ∙ ap (λ (w : View). w.start) (sym view)) kept.small;
         few = omega (arith, kept.few, all.tokens);
         room = omega (arith, kept.room, all.tokens, many, capacity, room, grants-many width less i n (on old.yard.lists wire));
-        spare = omega (arith, kept.spare, all.spare, room);
       }
 
 -- ---- what a sweep answers

@@ -15,7 +15,8 @@ use std::marker::Model;
 /// A worker's own part of a floor: its tokens, its grants, its quota and its room. A token is the number of a record of
 /// its lane: which lane it came from is not kept.
 ///
-/// Only [`Lane::reserve`] takes memory.
+/// It has room for grants, of which each client that comes in takes some for its own, and free records: a client inside
+/// has one of these, until it leaves. Only [`Lane::reserve`] and [`Lane::reserve_apart`] take memory.
 #[derive(Drop)]
 pub struct Lane {
     pub(super) seat: Seat<(), View>,
@@ -63,7 +64,7 @@ pub(super) fn make_way(
 }
 
 impl Lane {
-    ghost use Rattle.cn_floor.specs.Lane.{with_room};
+    ghost use Rattle.cn_floor.specs.Lane.{room_of, with_room, with_rooms};
 
     /// Its seat, its grants and its quota.
     pub(super) fn into_parts(self) -> (Seat<(), View>, Vec<Grant>, u64)
@@ -103,31 +104,63 @@ impl Lane {
     }
 
     /// Makes room for so many clients, at most [`cn_spec::limits::MOST_NAMED`]: as many can come in, and get their
-    /// grants, with no further memory.
+    /// grants, with no further memory. It is [`Lane::reserve_apart`] of as many grants and as many inside.
     ///
     /// # Errors
-    /// `AllocError` if there is less room and the rest gets no memory, or if with those inside they are more than
-    /// [`MOST_TOKENS`]. Then nothing has changed.
+    /// `AllocError` if there is less room or there are fewer free records, and the rest gets no memory, or if with
+    /// those inside they are more than [`MOST_TOKENS`]. Then nothing has changed.
     pub fn reserve(&mut self, clients: u64) -> Result<(), AllocError>
         requires { clients ≤ MOST_NAMED }
         ensures ok { OnOk result (self.new ≡ with_room clients self.old) }
         ensures err { OnErr result (self.new ≡ self.old) }
     {
+        self.reserve_apart(clients, clients)
+    }
+
+    /// Makes room for so many grants, and free records for so many clients inside at once, at most
+    /// [`cn_spec::limits::MOST_NAMED`] of each: as many clients can come in, so many of them at a time, and get their
+    /// grants, with no further memory. If it has fewer free records than room for grants, its [`Lane::room`] is the
+    /// number of free records: it does not fall while there are enough, and rises when a client leaves.
+    ///
+    /// # Errors
+    /// `AllocError` if there is less room or there are fewer free records, and the rest gets no memory, or if with
+    /// those inside the records are more than [`MOST_TOKENS`]. Then nothing has changed.
+    pub fn reserve_apart(&mut self, grants: u64, records: u64) -> Result<(), AllocError>
+        requires { (grants ≤ MOST_NAMED) × (records ≤ MOST_NAMED) }
+        ensures ok { OnOk result (self.new ≡ with_rooms grants records self.old) }
+        ensures err { OnErr result (self.new ≡ self.old) }
+    {
         let inside = u64::from(self.yard.len());
-        if inside + clients > u64::from(MOST_TOKENS) {
+        if inside + records > u64::from(MOST_TOKENS) {
             return Err(AllocError);
         }
-        self.grants.reserve((inside + clients) as usize)?;
-        self.yard.reserve(clients as u32)?;
-        self.room = self.room.max(clients);
+        self.grants.reserve((inside + grants) as usize)?;
+        self.yard.reserve(records as u32)?;
+        self.room = self.room.max(grants);
         Ok(())
     }
 
     /// For how many clients it has room: as many can come in, and get their grants, with no further memory.
     pub fn room(&self) -> u64
+        ensures { result ≡ room_of self.now }
+    {
+        self.grant_room().min(self.spare())
+    }
+
+    /// For how many clients' grants it has room, beside those of the clients inside: as many can get them with no
+    /// further memory.
+    pub fn grant_room(&self) -> u64
         ensures { result ≡ self.now.room }
     {
         self.room
+    }
+
+    /// How many of its records are free: as many clients can come in, if it has room for their grants, with no further
+    /// memory.
+    pub fn spare(&self) -> u64
+        ensures { result ≡ self.now.yard.spare }
+    {
+        u64::from(self.yard.spare())
     }
 
     /// How many clients it may still let in.

@@ -1,10 +1,10 @@
-//! One token is walked by one call, with its wire in a local: a client that is named, or a lane's only token.
+//! One client is walked by one call, with its wire in a local.
 
 ghost use Rattle.std.specs.Prelude.{◌≡◌, ℕ, ◌<◌, ◌≤◌, ◌↔◌, [], List, length, replicate, IfOk, IsErrOf, OnErr};
 ghost use Rattle.cn_wiring.specs.declared.end.End.TheVariants.{Exit};
 ghost use Rattle.cn_wiring.specs.Table.{end_of};
 ghost use Rattle.cn_yard.specs.Lists.{on, tokens_in};
-ghost use Rattle.cn_floor.specs.Alone.{GoesAlone, IsAlone, OnlyPassed, PassesOn};
+ghost use Rattle.cn_floor.specs.Alone.{IsAlone, OnlyPassed, PassesOn};
 ghost use Rattle.cn_floor.specs.Named.{IsGranted, IsNamed, WalksThrough};
 
 use super::Floor;
@@ -15,6 +15,7 @@ use crate::view::{Grant, View};
 use atomic_table::Seat;
 use cn_balancer::output_of;
 use cn_exit::name_of;
+use cn_ledger::Client;
 use cn_wiring::End;
 use cn_yard::Token;
 use std::marker::Brand;
@@ -28,7 +29,30 @@ impl<'a> Floor<'a> {
     /// # Errors
     /// The first that stands: `NoSuchEntry`, `QuotaSpent`, `Memory` (the lane has no room, and gets no memory). Then
     /// nothing has changed.
+    #[inline(always)]
     pub fn name(&self, lane: &mut Lane, client: u64, entry: u64) -> Result<u64, LaneFault>
+        requires own { lane.old.home ≡ self.now }
+        requires out { tokens_in lane.old.yard.lists ≡ 0 }
+        ensures ok { IfOk result (λ name. IsNamed lane.old lane.new client entry name) }
+        ensures err { OnErr result (lane.new ≡ lane.old) }
+        ensures entry { IsErrOf result LaneFault.NoSuchEntry
+            ↔ (self.now.start.network.table.entries ≤ entry) }
+        ensures quota { IsErrOf result LaneFault.QuotaSpent
+            ↔ ((entry < self.now.start.network.table.entries) × (lane.old.view.quota ≡ 0)) }
+        ensures room { 0 < lane.old.room → ¬ (IsErrOf result LaneFault.Memory) }
+    {
+        self.name_by(lane, client, entry, &NoPause)
+    }
+
+    /// As [`Floor::name`], with a pause before each step.
+    #[inline(always)]
+    fn name_by<P: Pause>(
+        &self,
+        lane: &mut Lane,
+        client: u64,
+        entry: u64,
+        pause: &P,
+    ) -> Result<u64, LaneFault>
         requires own { lane.old.home ≡ self.now }
         requires out { tokens_in lane.old.yard.lists ≡ 0 }
         ensures ok { IfOk result (λ name. IsNamed lane.old lane.new client entry name) }
@@ -50,15 +74,23 @@ impl<'a> Floor<'a> {
         let Ok(()) = make_way(&mut lane.grants, 1, &lane.yard, lane.room) else {
             return Err(LaneFault::Memory);
         };
-        let grant = self.grant_one(&mut lane.seat, client, entry as u32);
+        let grant = self.grant_one(&mut lane.seat, client, entry as u32, pause);
         lane.grants.push_reserved(grant);
         lane.quota -= 1;
         lane.room = lane.room.saturating_sub(1);
         Ok(grant.name)
     }
 
-    /// Lets a client in by an entry and walks it out, by a view with nobody inside: its grant.
-    pub(super) fn grant_one(&self, seat: &mut Seat<(), View>, client: u64, entry: u32) -> Grant
+    /// Lets a client in by an entry and walks it out, by a view with nobody inside: its grant. It is made part of its
+    /// callers, because an atomic add waits for each store before it, and a call makes some.
+    #[inline(always)]
+    pub(super) fn grant_one<P: Pause>(
+        &self,
+        seat: &mut Seat<(), View>,
+        client: u64,
+        entry: u32,
+        pause: &P,
+    ) -> Grant
         requires own { (seat.old.table_id ≡ self.now.table)
             × (seat.old.me.0.start ≡ self.now.start) }
         requires slots { (seat.old.me.1 ≡ []) × (seat.old.me.0.loads ≡ []) }
@@ -71,7 +103,7 @@ impl<'a> Floor<'a> {
         ensures gone { seat.new.me.0.tokens ≡ replicate (length seat.old.me.0.tokens) [] }
     {
         self.start_laws();
-        let (exit, visit) = self.walk_through(seat, client, entry);
+        let (exit, visit) = self.walk_through(seat, client, entry, pause);
         Grant {
             client,
             exit,
@@ -82,7 +114,14 @@ impl<'a> Floor<'a> {
 
     /// Lets a client in by an entry and walks it out, by a view with nobody inside: the exit by which it left, and its
     /// visit.
-    fn walk_through(&self, seat: &mut Seat<(), View>, client: u64, entry: u32) -> (u32, u64)
+    #[inline(always)]
+    fn walk_through<P: Pause>(
+        &self,
+        seat: &mut Seat<(), View>,
+        client: u64,
+        entry: u32,
+        pause: &P,
+    ) -> (u32, u64)
         requires own { (seat.old.table_id ≡ self.now.table)
             × (seat.old.me.0.start ≡ self.now.start) }
         requires slots { (seat.old.me.1 ≡ []) × (seat.old.me.0.loads ≡ []) }
@@ -97,11 +136,13 @@ impl<'a> Floor<'a> {
     {
         let network = self.network();
         let token = Token::first();
+        pause.before(Moment::Enter);
         self.counters.enter::<Brand>(seat, token, client, entry);
-        let wire = self.pass_on(seat, token, client, entry, &NoPause);
+        let wire = self.pass_on(seat, token, client, entry, pause);
         match network.end(wire) {
             End::Balancer(_) => unreachable!(),
             End::Exit(exit) => {
+                pause.before(Moment::Leave);
                 let end = End::Exit(exit);
                 let visit = self.counters.step::<Brand>(seat, token, client, wire, end);
                 (exit, visit)
@@ -111,7 +152,7 @@ impl<'a> Floor<'a> {
 
     /// Lets a token that is alone in a view pass one balancer after the other, until its wire ends at an exit.
     /// Gives this wire.
-    pub(super) fn pass_on<P: Pause>(
+    fn pass_on<P: Pause>(
         &self,
         seat: &mut Seat<(), View>,
         token: Token,
@@ -144,30 +185,27 @@ impl<'a> Floor<'a> {
     }
 }
 
-/// Lets the lane's only token, which stands on this wire, pass one balancer after the other, in one atomic step each,
-/// until its wire ends at an exit. Gives this wire. Only the final position is written to the yard. The gate is asked
-/// before each step, in the worker's name. It takes no memory, and refuses nothing, but returns only if the gate lets
-/// it.
-pub fn pass_alone<'a, G: Gate, R: Wait>(
+/// Lets a client in by its entry and walks it out, as [`Floor::name`] does, in a lane that has quota and room: its
+/// name. The gate is asked before each step, in the worker's name. It takes no memory, and refuses nothing, but returns
+/// only if the gate lets it.
+pub fn walk_one<'a, G: Gate, R: Wait>(
     rt: &R,
     floor: &Floor<'a>,
     lane: &mut Lane,
-    wire: u32,
+    client: Client,
     gate: &G,
     worker: u32,
-) -> u32
+) -> u64
     requires own { lane.old.home ≡ floor.now }
-    requires alone { tokens_in lane.old.yard.lists ≡ 1 }
-    requires stands { 0 < length (on lane.old.yard.lists wire) }
-    ensures { (token client : ℕ) × GoesAlone lane.old lane.new token client wire result }
+    requires out { tokens_in lane.old.yard.lists ≡ 0 }
+    requires entry { client.entry < floor.now.start.network.table.entries }
+    requires quota { 0 < lane.old.view.quota }
+    requires room { 0 < lane.old.room }
+    ensures { IsNamed lane.old lane.new client.id client.entry result }
 {
-    lane.lane_laws();
-    let Some(token) = lane.yard.first(wire) else {
+    let asked = Asked { rt, gate, worker };
+    let Ok(name) = floor.name_by(lane, client.id, client.entry, &asked) else {
         unreachable!()
     };
-    let client = lane.yard.client_of(token);
-    let asked = Asked { rt, gate, worker };
-    let to = floor.pass_on(&mut lane.seat, token, client, wire, &asked);
-    lane.yard.move_to(token, to);
-    to
+    name
 }

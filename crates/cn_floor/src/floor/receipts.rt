@@ -84,7 +84,7 @@ impl Receipts {
     }
 
     /// These, and then others.
-    pub fn and(self, others: Receipts) -> Receipts
+    pub fn append(self, others: Receipts) -> Receipts
         ensures { result ≡ self ++ others }
     {
         let Receipts { floors: first } = self;

@@ -102,7 +102,7 @@ impl<'a> Floor<'a> {
     }
 
     /// Takes the second lane into the first: its grants come after the first's. If the first has room for them it takes
-    /// no memory, and its room falls by their number.
+    /// no memory, and its room for grants falls by their number.
     ///
     /// # Errors
     /// The first that stands, with both lanes: `StillWalking` (the second has tokens), `Memory` (the first has no room

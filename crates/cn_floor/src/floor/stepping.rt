@@ -19,11 +19,12 @@ use std::marker::Brand;
 
 impl<'a> Floor<'a> {
     /// Lets a client in by an entry, in one atomic step; a refusal takes none. Its token stands last on the entry's
-    /// wire. It lowers the lane's quota by one, and its room if there is some. Identities are not compared.
+    /// wire. It lowers the lane's quota by one, and its room and its free records if there are some. Identities are not
+    /// compared.
     ///
     /// # Errors
-    /// The first that stands: `NoSuchEntry`, `QuotaSpent`, `Memory` (if the lane has no room, and gets no memory). Then
-    /// nothing has changed.
+    /// The first that stands: `NoSuchEntry`, `QuotaSpent`, `Memory` (if the lane has no room ([`Lane::room`]), and gets
+    /// no memory). Then nothing has changed.
     pub fn enter(&self, lane: &mut Lane, client: u64, entry: u64) -> Result<Token, LaneFault>
         requires own { lane.old.home ≡ self.now }
         ensures ok { IfOk result (λ token. LetsIn lane.old lane.new token client entry) }
@@ -32,7 +33,7 @@ impl<'a> Floor<'a> {
             ↔ (self.now.start.network.table.entries ≤ entry) }
         ensures quota { IsErrOf result LaneFault.QuotaSpent
             ↔ ((entry < self.now.start.network.table.entries) × (lane.old.view.quota ≡ 0)) }
-        ensures room { 0 < lane.old.room → ¬ (IsErrOf result LaneFault.Memory) }
+        ensures room { 0 < lane.old.room → 0 < lane.old.yard.spare → ¬ (IsErrOf result LaneFault.Memory) }
     {
         if entry >= u64::from(self.network().entries()) {
             return Err(LaneFault::NoSuchEntry);

@@ -13,6 +13,7 @@ ghost use Rattle.cn_floor.specs.declared.view.Grant.{Grant};
 use super::Floor;
 use super::taker::Taker;
 use crate::fault::{LaneFault, SplitFault};
+use crate::gate::NoPause;
 use crate::view::View;
 use atomic_table::Seat;
 use cn_balancer::output_of;
@@ -42,7 +43,7 @@ impl<'a> Floor<'a> {
         if taker.quota == 0 {
             return Err(LaneFault::QuotaSpent);
         }
-        let grant = self.grant_one(&mut taker.seat, 0, entry as u32);
+        let grant = self.grant_one(&mut taker.seat, 0, entry as u32, &NoPause);
         taker.quota -= 1;
         taker.taken += 1;
         Ok(grant.name)

@@ -8,7 +8,7 @@ use super::{FloorWithPlaces, ROWS};
 use crate::places::{Place, Returned};
 use crate::reading_rows::{is_free, make_row, read_row};
 use crate::row::{Row, SharedRow};
-use crate::searches::{EmptyGroup, EmptyRow, NoneBack, Search};
+use crate::searches::{EmptyGroup, EmptyRow, MOST_JOINS, MOST_SEARCHES, NoneBack, Search};
 use crate::taken::Taken;
 use crate::turns::take_from;
 use cn_floor::Floor;
@@ -19,9 +19,6 @@ use std::sync::atomic::Ordering::SeqCst;
 
 /// How many places the first row has.
 const FIRST_ROW: usize = 16;
-
-/// How many searches are in vain at most because lanes were handed back meanwhile: for centuries.
-const MOST_SEARCHES: u64 = u64::MAX;
 
 /// Goes on with a search in a row until it finds a place, which is then its finder's own: its number, and what stood
 /// there.
@@ -35,7 +32,7 @@ fn search_row(
 ) -> Result<(usize, Option<Returned>, Search), Search>
     requires row { IsRowOf floor.now row.now }
     requires state { search.state < 2 }
-    requires few { search.found < 18446744073709551615 }
+    requires few { search.found < MOST_JOINS }
     ensures found { IfOk result (λ r. (r.0 < length row.now.places.items) × IsFound floor.now search.state r.1) }
     ensures ok { IfOk result (λ r. GoesOn 1 search r.2 × (r.2.on.row ≡ search.on.row)) }
     ensures err { IfErr result (λ s. GoesOn 0 search s × (s.on.row ≡ search.on.row)
@@ -72,7 +69,7 @@ impl FloorWithPlaces {
     /// The search, if there is none.
     fn search(&self, mut search: Search) -> Result<(Option<Returned>, Place, Search), Search>
         requires state { search.state < 2 }
-        requires few { (search.found < 18446744073709551615) × IsWithin search }
+        requires few { (search.found < MOST_JOINS) × IsWithin search }
         ensures found { IfOk result (λ r. IsFound self.now search.state r.0 × IsPlaceOf self.now r.1) }
         ensures ok { IfOk result (λ r. GoesOn 1 search r.2 × IsWithin r.2) }
         ensures err { IfErr result (λ s. GoesOn 0 search s × (s.on.row ≡ s.unmade.from)) }
@@ -103,7 +100,7 @@ impl FloorWithPlaces {
     /// The search, if there is none.
     pub(crate) fn search_lane(&self, search: Search) -> Result<(Taken, Place, Search), Search>
         requires lanes { search.state ≡ 1 }
-        requires few { (search.found < 18446744073709551615) × IsWithin search }
+        requires few { (search.found < MOST_JOINS) × IsWithin search }
         ensures taken { IfOk result (λ r. IsTakenOf self.now (r.0, r.1)) }
         ensures ok { IfOk result (λ r. GoesOn 1 search r.2 × IsWithin r.2) }
         ensures err { IfErr result (λ s. GoesOn 0 search s × (s.on.row ≡ s.unmade.from)) }

@@ -151,7 +151,7 @@ impl HeldLane {
             return Err(Refusal::QuotaSpent);
         }
         self.lane.lane_laws();
-        if self.lane.room() < count && self.lane.reserve(count).is_err() {
+        if self.lane.grant_room() < count && self.lane.reserve_apart(count, 0).is_err() {
             return Err(Refusal::Memory);
         }
         name_list(floor, &mut self.lane, clients, entry, names);

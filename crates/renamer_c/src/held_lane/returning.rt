@@ -12,12 +12,9 @@ use crate::held::Held;
 use crate::kept::keep;
 use crate::places::Place;
 use crate::refusal::Refusal;
-use crate::searches::{NoneBack, Search};
+use crate::searches::{MOST_JOINS, NoneBack, Search};
 use crate::taken::Taken;
 use std::sync::Arc;
-
-/// How many lanes one call takes in at most: for centuries.
-const MOST_JOINS: u64 = u64::MAX;
 
 /// Why a lane takes in no other.
 #[derive(Drop)]

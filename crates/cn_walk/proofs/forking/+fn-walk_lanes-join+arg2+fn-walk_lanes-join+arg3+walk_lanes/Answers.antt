@@ -2,10 +2,10 @@ use Rattle.std.proofs.Common.{◌≡◌, ℕ, ◌-◌, List, length, sym, ap, �
 use Rattle.std.specs.Prelude.{IfOk}
 use Rattle.cn_ledger.specs.declared.client.Client.{Client}
 use Rattle.cn_walk.specs.declared.forking.Lanes.{Lanes}
-use Rattle.cn_walk.specs.Halves.{AreReady, IsOne, IsReady, together, whole}
+use Rattle.cn_walk.specs.Parts.{AreReady, IsOne, IsReady, together, whole}
 use Rattle.cn_floor.specs.Lane.{FloorValue, LaneValue}
 use Rattle.cn_walk.specs.Walks.{WalksAll}
-use Rattle.cn_walk.proofs.Halves.{both-walked, whole-ready}
+use Rattle.cn_walk.proofs.Parts.{both-walked, whole-ready}
 use Rattle.cn_walk.proofs.forking.+fn-walk_lanes-join+arg2+fn-walk_lanes-join+arg3+walk_lanes.Goals as goal
 
 pub returns-in-Ok-clause-walked : goal.returns-in-Ok-clause-walked
@@ -14,13 +14,14 @@ returns-in-Ok-clause-walked g t c =
     let right = c.into_inner-right.ensures in
     let a : LaneValue = whole c.into_inner-left.result in
     let b : LaneValue = whole c.into_inner-right.result in
-    let lanes : whole c.args.lanes ≡ together a b = ap whole c.in-Halves.is ∙ (λ i. together (whole (sym left i)) (whole (sym right i))) in
+    let lanes : whole c.args.lanes ≡ together a b = ap whole c.in-Fork.is ∙ (λ i. together (whole (sym left i)) (whole (sym right i))) in
     let home : FloorValue = g.F.SharedFloor.home c.args.floor.now in
     let n : ℕ = length c.args.clients.now in
-    let at : ℕ = c.in-Halves.at in
-    let ready = subst (λ (x : Lanes). AreReady home n x) c.in-Halves.is c.requires.ready in
-    let other = subst (λ (x : Lanes). IsReady home (n - at) (whole x)) (sym right)
-    (whole-ready home (n - at) c.in-Halves.right.value ready.3) in
+    let at : ℕ = c.in-Fork.at in
+    let hand : ℕ = c.args.crew.hand in
+    let ready = subst (λ (x : Lanes). AreReady home n hand x) c.in-Fork.is c.requires.ready in
+    let other = subst (λ (x : Lanes). IsReady home (n - at) hand (whole x)) (sym right)
+    (whole-ready home (n - at) hand c.in-Fork.right.value ready.3) in
     let cut = c.split_at.ensures.by_index.0 in
     let done = both-walked a b c.join-lane.result.0 c.join-lane.result.1 _ _ other.nothing c.join-lane.ensures.first
     c.join-lane.ensures.second in
@@ -31,4 +32,4 @@ returns-in-Ok-clause-walked g t c =
     (subst (λ (xs : List Client). WalksAll (together a b) (together c.join-lane.result.0 c.join-lane.result.1) xs) (sym cut) done))
 
 pub returns-in-Ok-clause-in_order : goal.returns-in-Ok-clause-in_order
-returns-in-Ok-clause-in_order g t c one single sole = absurd (subst IsOne c.in-Halves.is single)
+returns-in-Ok-clause-in_order g t c one single sole = absurd (subst IsOne c.in-Fork.is single)

@@ -1,5 +1,5 @@
 use Rattle.std.proofs.Common.{◌+◌, ◌*◌}
-use Rattle.cn_walk.proofs.Halves.{nodes}
+use Rattle.cn_walk.proofs.Parts.{nodes}
 use Rattle.cn_walk.proofs.forking.+fn-walk_lanes-join+arg2+fn-walk_lanes-join+arg3+walk_lanes.Given as goal
 
 abbrev pub decreases-join+arg2 : goal.decreases-join+arg2

@@ -1,40 +1,40 @@
-use Rattle.std.proofs.Common.{rules, ◌≡◌, ◌+◌, ◌-◌, ◌/◌, ◌<◌, ◌≤◌, arith, ℕ, refl, ap, ◌∙◌, subst}
+use Rattle.std.proofs.Common.{rules, ◌≡◌, ◌+◌, ◌-◌, ◌/◌, ◌<◌, ◌≤◌, arith, ℕ, min, refl, ap, ◌∙◌, subst}
 use Rattle.std.specs.Prelude.{IfSome}
 use Rattle.cn_walk.specs.declared.forking.Lanes.{Lanes}
 use Rattle.cn_floor.specs.Lane.{LaneValue}
-use Rattle.cn_walk.specs.Halves.{AreOf, AreReady, IsPair, first_position}
-use Rattle.cn_walk.proofs.Halves.{first-later, left-nothing, none_after, none_before, pair-ready, reserved-nothing, right-nothing, some_so}
+use Rattle.cn_walk.specs.Parts.{AreOf, AreReady, IsPair, first_position}
+use Rattle.cn_walk.proofs.Parts.{first-later, left-nothing, none_after, none_before, pair-ready, reserved-nothing, right-nothing, some_so}
 use Rattle.cn_walk.proofs.forking.+make_lanes.Goals as goal
 use Rattle.cn_walk.proofs.forking.+make_lanes.Goals.{then-own-eq0-via-then-own-eq0, then-own-eq0-via-else-own-eq0+then-to-from-eq1}
 
 pub overflow_sub-own-2 : goal.overflow_sub-own-2
 overflow_sub-own-2 t c =
-    let middle : ℕ = c.args.from + (c.args.to - c.args.from) / 2 in
+    let middle : ℕ = c.args.to - 1 - (c.args.to - c.args.from - 2) / 4 in
     omega (
       arith,
       c.first_position-2.ensures.value,
       c.first_position.ensures.value,
-      first-later c.args.clients c.args.workers middle c.args.to (omega (arith, c.requires.range)) (omega (arith, c.requires.range)),
+      first-later c.args.clients c.args.crew.workers middle c.args.to (omega (arith, c.requires.range)) (omega (arith, c.requires.range)),
     )
 
 pub make_lanes-requires-2 : goal.make_lanes-requires-2
 make_lanes-requires-2 t c =
-    let middle : ℕ = c.args.from + (c.args.to - c.args.from) / 2 in
-    let q : ℕ = c.from-2.result in
+    let middle : ℕ = c.args.to - 1 - (c.args.to - c.args.from - 2) / 4 in
+    let q : ℕ = c.from-3.result in
     let range = c.requires.range in
     let reserved = c.in-Ok.ensures.ok in
-    let low = first-later c.args.clients c.args.workers middle c.args.to (omega (arith, range)) (omega (arith, range)) in (
+    let low = first-later c.args.clients c.args.crew.workers middle c.args.to (omega (arith, range)) (omega (arith, range)) in (
       search rules,
       (
         ap (λ (l : LaneValue). l.home) c.in-Ok-split.ensures.first ∙ ap (λ (l : LaneValue). l.home) reserved ∙ c.requires.own,
         (
           (omega (arith, c.if-to-from-eq1.false, range), omega (arith, range), range.2),
           (
-            left-nothing q c.reserve.new.self c.in-Ok-split.lane (reserved-nothing _ _ _ c.requires.nothing reserved)
+            left-nothing q c.reserve_apart.new.self c.in-Ok-split.lane (reserved-nothing _ _ _ _ c.requires.nothing reserved)
                 c.in-Ok-split.ensures.first,
             omega (
               arith,
-              c.from-2.ensures,
+              c.from-3.ensures,
               low,
               c.requires.quota,
               c.first_position.ensures.value,
@@ -50,20 +50,20 @@ make_lanes-requires-2 t c =
 
 pub make_lanes-requires-3 : goal.make_lanes-requires-3
 make_lanes-requires-3 t c =
-    let middle : ℕ = c.args.from + (c.args.to - c.args.from) / 2 in
-    let q : ℕ = c.from-2.result in
+    let middle : ℕ = c.args.to - 1 - (c.args.to - c.args.from - 2) / 4 in
+    let q : ℕ = c.from-3.result in
     let range = c.requires.range in
-    let low = first-later c.args.clients c.args.workers c.args.from middle (omega (arith, range)) (omega (arith, range)) in (
+    let low = first-later c.args.clients c.args.crew.workers c.args.from middle (omega (arith, range)) (omega (arith, range)) in (
       search rules,
       (
         ap (λ (l : LaneValue). l.home) c.in-Ok-split.ensures.second ∙ ap (λ (l : LaneValue). l.home) c.in-Ok.ensures.ok ∙ c.requires.own,
         (
           (omega (arith, c.if-to-from-eq1.false, range), omega (arith, range), range.2),
           (
-            right-nothing q c.reserve.new.self c.in-Ok-split.other c.in-Ok-split.ensures.second,
+            right-nothing q c.reserve_apart.new.self c.in-Ok-split.other c.in-Ok-split.ensures.second,
             omega (
               arith,
-              c.from-2.ensures,
+              c.from-3.ensures,
               low,
               c.first_position.ensures.value,
               c.first_position-first.ensures.value,
@@ -78,10 +78,10 @@ make_lanes-requires-3 t c =
 pub returns-clause-ready : goal.returns-clause-ready
 returns-clause-ready t c =
     let home = c.args.floor.now in
-    let middle : ℕ = c.args.from + (c.args.to - c.args.from) / 2 in
+    let middle : ℕ = c.args.to - 1 - (c.args.to - c.args.from - 2) / 4 in
     let range = c.requires.range in
     let k : ℕ = c.args.clients in
-    let w : ℕ = c.args.workers in
+    let w : ℕ = c.args.crew.workers in
     let n : ℕ = first_position k w c.args.to - first_position k w c.args.from in
     let at : ℕ = c.first_position-2.result - c.first_position-first.result in
     let r : ℕ = first_position k w c.args.to - first_position k w middle in
@@ -93,22 +93,28 @@ returns-clause-ready t c =
     let few : at ≤ n = omega (arith, high, mid, begin) in
     let part : first_position k w middle - first_position k w c.args.from ≡ at = omega (arith, mid, begin) in
     let rest : r ≡ n - at = omega (arith, low, high, mid, begin) in
-    let reserved : c.first_position.result - c.first_position-first.result ≤ c.reserve.new.self.room = search rules in
+    let reserved : c.first_position.result - c.first_position-first.result ≤ c.reserve_apart.new.self.room = search rules in
     let room : n ≤ c.in-Ok-split.lane.room =
     omega (arith, reserved, end, begin, ap (λ (l : LaneValue). l.room) c.in-Ok-split.ensures.first) in
-    let left : AreReady home at c.in_ok-left.left = subst (λ (x : ℕ). AreReady home x c.in_ok-left.left) part c.in_ok-left.ensures.ready in
-    some_so (λ (lanes : Lanes). IsPair at c.in_ok-left.left c.in_ok-right.right lanes) (λ (lanes : Lanes). AreReady home n lanes)
+    let hand : ℕ = c.args.crew.hand in
+    let free : min (c.first_position.result - c.first_position-first.result) hand ≤ c.reserve_apart.new.self.yard.spare = search rules in
+    let spare : min n hand ≤ c.in-Ok-split.lane.yard.spare =
+    omega (arith, free, end, begin, ap (λ (l : LaneValue). l.yard.spare) c.in-Ok-split.ensures.first) in
+    let left : AreReady home at hand c.in_ok-left.left =
+    subst (λ (x : ℕ). AreReady home x hand c.in_ok-left.left) part c.in_ok-left.ensures.ready in
+    some_so (λ (lanes : Lanes). IsPair at c.in_ok-left.left c.in_ok-right.right lanes) (λ (lanes : Lanes). AreReady home n hand lanes)
     c.pair.result
-    (λ lanes is. pair-ready home n at r c.in_ok-left.left c.in_ok-right.right lanes is few (omega (arith, room, c.in_ok-left.ensures.room))
-    left c.in_ok-right.ensures.ready rest)
+    (λ lanes is. pair-ready home n at r hand c.in_ok-left.left c.in_ok-right.right lanes is few
+    (omega (arith, room, c.in_ok-left.ensures.room)) (omega (arith, spare, c.in_ok-left.ensures.spare)) left c.in_ok-right.ensures.ready
+    rest)
     c.pair.ensures
 
 pub returns-clause-workers : goal.returns-clause-workers
 returns-clause-workers t c =
-    let middle : ℕ = c.args.from + (c.args.to - c.args.from) / 2 in
+    let middle : ℕ = c.args.to - 1 - (c.args.to - c.args.from - 2) / 4 in
     let range = c.requires.range in
     let k : ℕ = c.args.clients in
-    let w : ℕ = c.args.workers in
+    let w : ℕ = c.args.crew.workers in
     let at : ℕ = c.first_position-2.result - c.first_position-first.result in
     let part : at ≡ first_position k w middle - first_position k w c.args.from =
     omega (arith, c.first_position-2.ensures.value, c.first_position-first.ensures.value) in
@@ -130,12 +136,13 @@ returns-clause-workers t c =
 
 pub overflow_sub-at : goal.overflow_sub-at
 overflow_sub-at t c =
-    let middle : ℕ = c.args.from + (c.args.to - c.args.from) / 2 in
+    let middle : ℕ = c.args.to - 1 - (c.args.to - c.args.from - 2) / 4 in
     omega (
       arith,
       c.first_position-2.ensures.value,
       c.first_position-first.ensures.value,
-      first-later c.args.clients c.args.workers c.args.from middle (omega (arith, c.requires.range)) (omega (arith, c.requires.range)),
+      first-later c.args.clients c.args.crew.workers c.args.from middle (omega (arith, c.requires.range))
+          (omega (arith, c.requires.range)),
     )
 
 -- ---- workers without clients
@@ -149,7 +156,7 @@ single k w from to some less none =
 pub returns-then-own-eq0-clause-workers : goal.returns-then-own-eq0-clause-workers
 returns-then-own-eq0-clause-workers t c =
     let k : ℕ = c.args.clients in
-    let w : ℕ = c.args.workers in
+    let w : ℕ = c.args.crew.workers in
     let range = c.requires.range in
     let last : first_position k w (c.args.from + 1) ≡ first_position k w c.args.to =
     elim c.then-own-eq0.branch [
@@ -164,8 +171,8 @@ returns-then-own-eq0-clause-workers t c =
 pub make_lanes-requires : goal.make_lanes-requires
 make_lanes-requires t c =
     let range = c.requires.range in
-    let middle : ℕ = c.args.from + (c.args.to - c.args.from) / 2 in
-    let low = first-later c.args.clients c.args.workers c.args.from middle (omega (arith, range)) (omega (arith, range)) in
+    let middle : ℕ = c.args.to - 1 - (c.args.to - c.args.from - 2) / 4 in
+    let low = first-later c.args.clients c.args.crew.workers c.args.from middle (omega (arith, range)) (omega (arith, range)) in
     let reserved = c.in-Ok.ensures.ok in (
       search rules,
       (
@@ -173,7 +180,7 @@ make_lanes-requires t c =
         (
           (omega (arith, c.if-to-from-eq1.false, range), omega (arith, range), range.2),
           (
-            reserved-nothing _ _ _ c.requires.nothing reserved,
+            reserved-nothing _ _ _ _ c.requires.nothing reserved,
             omega (arith, low, c.requires.quota, ap (λ (l : LaneValue). l.view.quota) reserved),
           ),
         ),
@@ -183,18 +190,19 @@ make_lanes-requires t c =
 pub returns-then-at-eq0-clause-ready : goal.returns-then-at-eq0-clause-ready
 returns-then-at-eq0-clause-ready t c =
     let k : ℕ = c.args.clients in
-    let w : ℕ = c.args.workers in
-    let middle : ℕ = c.args.from + (c.args.to - c.args.from) / 2 in
+    let w : ℕ = c.args.crew.workers in
+    let middle : ℕ = c.args.to - 1 - (c.args.to - c.args.from - 2) / 4 in
     let low = first-later k w c.args.from middle (omega (arith, c.requires.range)) (omega (arith, c.requires.range)) in
     let same : first_position k w c.args.to - first_position k w middle ≡ first_position k w c.args.to - first_position k w c.args.from =
     omega (arith, c.if-at-eq0.true, low, c.first_position-first.ensures.value, c.first_position-2.ensures.value) in
-    subst (λ (n : ℕ). IfSome c.make_lanes.result (λ lanes. AreReady c.args.floor.now n lanes)) same c.make_lanes.ensures.ready
+    subst (λ (n : ℕ). IfSome c.make_lanes.result (λ lanes. AreReady c.args.floor.now n c.args.crew.hand lanes)) same
+    c.make_lanes.ensures.ready
 
 pub returns-then-at-eq0-clause-workers : goal.returns-then-at-eq0-clause-workers
 returns-then-at-eq0-clause-workers t c =
     let k : ℕ = c.args.clients in
-    let w : ℕ = c.args.workers in
-    let middle : ℕ = c.args.from + (c.args.to - c.args.from) / 2 in
+    let w : ℕ = c.args.crew.workers in
+    let middle : ℕ = c.args.to - 1 - (c.args.to - c.args.from - 2) / 4 in
     let low = first-later k w c.args.from middle (omega (arith, c.requires.range)) (omega (arith, c.requires.range)) in
     let same : first_position k w middle ≡ first_position k w c.args.from =
     omega (arith, c.if-at-eq0.true, low, c.first_position-first.ensures.value, c.first_position-2.ensures.value) in
@@ -206,8 +214,8 @@ returns-then-at-eq0-clause-workers t c =
 pub returns-then-at-own-clause-workers : goal.returns-then-at-own-clause-workers
 returns-then-at-own-clause-workers t c =
     let k : ℕ = c.args.clients in
-    let w : ℕ = c.args.workers in
-    let middle : ℕ = c.args.from + (c.args.to - c.args.from) / 2 in
+    let w : ℕ = c.args.crew.workers in
+    let middle : ℕ = c.args.to - 1 - (c.args.to - c.args.from - 2) / 4 in
     let low = first-later k w c.args.from middle (omega (arith, c.requires.range)) (omega (arith, c.requires.range)) in
     let high = first-later k w middle c.args.to (omega (arith, c.requires.range)) (omega (arith, c.requires.range)) in
     let same : first_position k w middle ≡ first_position k w c.args.to =

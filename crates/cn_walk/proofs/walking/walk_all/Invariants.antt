@@ -1,7 +1,7 @@
-use Rattle.std.proofs.Common.{◌≡◌, ℕ, ◌<◌, ◌≤◌, All, length}
+use Rattle.std.proofs.Common.{◌≡◌, ℕ, ◌<◌, ◌≤◌, All, length, min}
 use Rattle.cn_yard.specs.Lists.{tokens_in}
 use Rattle.cn_floor.specs.Lane.{LaneValue}
-use Rattle.cn_walk.specs.Walks.{GrantsInOrder, IsSole, Walks, inside_by}
+use Rattle.cn_walk.specs.Walks.{Walks, inside_by}
 use Rattle.cn_walk.proofs.walking.walk_all.Given as goal
 
 -- those that are left make the whole walk
@@ -13,9 +13,8 @@ invariant-loop-rest g l = record {
   entries : All (λ c. c.entry < l.floor.start.network.table.entries) l.rest;
   quota : length l.rest ≤ l.lane.view.quota;
   room : length l.rest ≤ l.lane.room;
+  spare : min (length l.rest) l.hand ≤ l.lane.yard.spare;
   walks : (last : LaneValue) → Walks l.lane last l.rest → Walks l.initial.lane last l.clients;
-  ordered : l.hand ≡ 1 → IsSole l.initial.lane
-      → IsSole l.lane × ((last : LaneValue) → GrantsInOrder l.lane last l.rest → GrantsInOrder l.initial.lane last l.clients);
 }
 
 abbrev pub decreases-loop-rest : goal.decreases-loop-rest

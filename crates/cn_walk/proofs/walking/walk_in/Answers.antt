@@ -1,13 +1,11 @@
 use Rattle.std.proofs.Common.{rules, ◌<◌, ◌∙◌, ap, subst, sym, arith}
 use Rattle.cn_wiring.specs.Table.{IsWellFormed}
 use Rattle.cn_floor.specs.Lane.{FloorValue}
-use Rattle.cn_floor.specs.Steps.{StoodInState}
-use Rattle.cn_walk.proofs.Ordered.{state-after}
 use Rattle.cn_walk.proofs.Walks.{IsHeld, comes, comes-next, stays}
 use Rattle.cn_walk.proofs.walking.walk_in.Goals as goal
 
 pub loop-client-init : goal.loop-client-init
-loop-client-init g c = record { walks = stays c.args.lane.now; in_state = λ low. absurd (omega (arith, low)) }
+loop-client-init g c = record { walks = stays c.args.lane.now; spare = omega (arith, c.requires.spare) }
 
 pub loop-client-preserved : goal.loop-client-preserved
 loop-client-preserved g c =
@@ -24,6 +22,5 @@ loop-client-preserved g c =
     record {
       walks = comes-next _ _ _ _ (record { id = 0; entry = 0 }) _ c.loop-client-test.true was.walks
           (comes _ _ _ _ _ formed held some (search rules) came);
-      in_state = λ _. subst (λ (h : FloorValue). StoodInState h.start c.enter.new.lane.view) (was.walks.home ∙ c.requires.own)
-          (state-after _ _ _ _ came.step);
+      spare = omega (arith, was.spare, c.loop-client-test.true, came.yard.spare);
     }

@@ -1,19 +1,17 @@
 use Rattle.std.proofs.Common.{◌≡◌, ℕ, ◌<◌, ◌≤◌, [], length}
 use Rattle.cn_yard.specs.Lists.{on}
-use Rattle.cn_floor.specs.Steps.{StoodInState}
 use Rattle.cn_walk.specs.Walks.{Walks, steps_left}
 use Rattle.cn_walk.proofs.Walks.{IsHeld}
 use Rattle.cn_walk.proofs.walking.walk_out.Given as goal
 
 -- some of those inside went on or out, and nobody stands below the last wire
-abbrev pub invariant-loop-lowest : goal.invariant-loop-lowest
-invariant-loop-lowest g l = record {
+abbrev pub invariant-loop-wire : goal.invariant-loop-wire
+invariant-loop-wire g l = record {
   walks : Walks l.initial.lane l.lane [];
   held : IsHeld l.lane;
   from : l.from ≤ length l.lane.yard.lists;
   clear : (u : ℕ) → u < l.from → on l.lane.yard.lists u ≡ [];
-  in_state : StoodInState l.floor.start l.initial.lane.view → StoodInState l.floor.start l.lane.view;
 }
 
-abbrev pub decreases-loop-lowest : goal.decreases-loop-lowest
-decreases-loop-lowest g l = steps_left l.lane.view
+abbrev pub decreases-loop-wire : goal.decreases-loop-wire
+decreases-loop-wire g l = steps_left l.lane.view

@@ -37,5 +37,4 @@ invariant_of-lane c =
       small = subst FitsLanes (sym (ap (λ (x : View). x.start) is ∙ floor)) small;
       few = omega (arith, nobody, c.requires.few);
       room = omega (arith, nobody, ap length c.new.ensures.items);
-      spare = omega arith;
     }

@@ -83,7 +83,6 @@ invariant_of-lane-in_default-admit c =
       small = was.small;
       few = omega (arith, was.few, ap (λ (y : Yard). tokens_in y.lists) same);
       room = omega (arith, c.make_way.ensures.room, ap (λ (y : Yard). tokens_in y.lists) same);
-      spare = omega (arith, was.spare, ap (λ (y : Yard). y.spare) same);
     }
 
 pub invariant_of-lane-2 : goal.invariant_of-lane-2

@@ -5,7 +5,7 @@ use Rattle.cn_floor.proofs.InLane.Named.{granted, name-fits}
 use Rattle.cn_floor.proofs.floor.Floor.grant_one.Goals as goal
 
 pub name_of-requires : goal.name_of-requires
-name_of-requires c =
+name_of-requires g c =
     let width : c.width.result ≡ c.args.self.now.start.network.table.width =
     c.width.ensures.value ∙ ap (λ (n : Network). n.table.width) c.network.ensures.value in
     omega (
@@ -15,7 +15,7 @@ name_of-requires c =
     )
 
 pub returns-clause-granted : goal.returns-clause-granted
-returns-clause-granted c =
+returns-clause-granted g c =
     let width : c.width.result ≡ c.args.self.now.start.network.table.width =
     c.width.ensures.value ∙ ap (λ (n : Network). n.table.width) c.network.ensures.value in
     let came : c.self.inside.base ≡ base c.args.self.now.start =

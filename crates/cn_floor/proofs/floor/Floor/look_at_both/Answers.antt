@@ -58,7 +58,6 @@ invariant_of-lane c =
       small = subst FitsLanes (sym (ap (λ (x : View). x.start) is)) was.small;
       few = was.few;
       room = was.room;
-      spare = was.spare;
     }
 
 pub invariant_of-other : goal.invariant_of-other
@@ -75,7 +74,6 @@ invariant_of-other c =
       small = subst FitsLanes (sym (ap (λ (x : View). x.start) is)) was.small;
       few = was.few;
       room = was.room;
-      spare = was.spare;
     }
 
 pub returns-clause-first : goal.returns-clause-first

@@ -79,7 +79,6 @@ invariant_of-lane-2 c =
         ap length was.grants,
         c.pass_all.ensures.capacity,
       );
-      spare = omega (arith, was.spare, c.saturating_sub-lane-inside.ensures);
     }
 
 pub returns-clause-ok : goal.returns-clause-ok

@@ -19,7 +19,6 @@ invariant_of-lane c =
       small = subst FitsLanes (sym (ap (λ (x : View). x.start) view)) was.small;
       few = omega (arith, was.few);
       room = was.room;
-      spare = was.spare;
     }
 
 pub invariant_of-result : goal.invariant_of-result
@@ -43,7 +42,6 @@ invariant_of-result c =
       small = subst FitsLanes (sym (ap (λ (x : View). x.start) view)) c.lane.invariant.small;
       few = omega (arith, c.yard_for-yard.ensures.nobody, c.lane.invariant.few, c.if-quota-lane.false);
       room = omega (arith, c.yard_for-yard.ensures.nobody, ap length c.new.ensures.items);
-      spare = omega arith;
     }
 
 pub returns-clause-first : goal.returns-clause-first

@@ -92,7 +92,6 @@ invariant_of-lane-2 c =
         c.make_way.ensures.room,
         c.saturating_sub-lane-inside.ensures,
       );
-      spare = omega (arith, was.spare, c.saturating_sub-lane-inside.ensures);
     }
 
 pub returns-clause-ok : goal.returns-clause-ok

@@ -6,25 +6,25 @@ use Rattle.cn_floor.proofs.InLane.Named.{alone-entered, gone-alone}
 use Rattle.cn_floor.proofs.floor.Floor.walk_through.Goals as goal
 
 pub pass_on-wire-requires-clause-wires : goal.pass_on-wire-requires-clause-wires
-pass_on-wire-requires-clause-wires c =
+pass_on-wire-requires-clause-wires g c =
     let v : View = c.args.seat.now.me.0 in
     ap (λ (x : View). length x.tokens) c.enter.ensures.came.0
     ∙ length-map-range_with_len (λ u. on v.tokens u ++ last_on c.first-token.result c.args.client c.args.entry u) 0 (length v.tokens)
     ∙ c.requires.wires
 
 pub pass_on-wire-requires-clause-alone : goal.pass_on-wire-requires-clause-alone
-pass_on-wire-requires-clause-alone c =
+pass_on-wire-requires-clause-alone g c =
     let v : View = c.args.seat.now.me.0 in
     let inside : c.args.entry < length v.tokens = search rules in
     subst (λ (x : View). IsAlone x.tokens c.first-token.result c.args.client c.args.entry) (sym c.enter.ensures.came.0)
     (alone-entered c.first-token.result c.args.client c.args.entry v inside c.requires.out)
 
 pub step-visit-requires-clause-there : goal.step-visit-requires-clause-there
-step-visit-requires-clause-there c =
+step-visit-requires-clause-there g c =
     there-alone c.pass_on-wire.new.seat.me.0.tokens c.first-token.result c.args.client c.pass_on-wire.result c.pass_on-wire.ensures.alone
 
 pub step-visit-requires-clause-wires : goal.step-visit-requires-clause-wires
-step-visit-requires-clause-wires c =
+step-visit-requires-clause-wires g c =
     let v : View = c.args.seat.now.me.0 in
     c.pass_on-wire.ensures.passed.wires ∙ ap (λ (x : View). length x.tokens) c.enter.ensures.came.0
     ∙ length-map-range_with_len (λ u. on v.tokens u ++ last_on c.first-token.result c.args.client c.args.entry u) 0 (length v.tokens)
@@ -32,7 +32,7 @@ step-visit-requires-clause-wires c =
     ∙ ap (λ (h : FloorValue). length h.start.network.table.ends) (sym c.self.view_is)
 
 pub returns-clause-gone : goal.returns-clause-gone
-returns-clause-gone c =
+returns-clause-gone g c =
     let v : View = c.args.seat.now.me.0 in
     let before : View = c.pass_on-wire.new.seat.me.0 in
     let wires : length before.tokens ≡ length v.tokens =
@@ -44,7 +44,7 @@ returns-clause-gone c =
     ∙ ap (λ (n : ℕ). replicate n []) wires
 
 pub returns-clause-walked : goal.returns-clause-walked
-returns-clause-walked c =
+returns-clause-walked g c =
     let same = ap (λ (h : FloorValue). h.start) c.self.view_is in
     record {
       token = c.first-token.result;
@@ -63,58 +63,58 @@ returns-clause-walked c =
     }
 
 pub enter-requires-clause-own : goal.enter-requires-clause-own
-enter-requires-clause-own c = (
+enter-requires-clause-own g c = (
   c.requires.own.0 ∙ ap (λ (h : FloorValue). h.table) (sym c.self.view_is),
   c.requires.own.1 ∙ ap (λ (h : FloorValue). h.start) (sym c.self.view_is),
 )
 
 pub enter-requires-clause-entry : goal.enter-requires-clause-entry
-enter-requires-clause-entry c = (
+enter-requires-clause-entry g c = (
   subst (λ (h : FloorValue). c.args.entry < h.start.network.table.entries) (sym c.self.view_is) c.requires.entry,
   omega (arith, c.requires.entry, c.requires.wires, c.network-network.ensures.network.formed.wires),
 )
 
 pub pass_on-wire-requires-clause-own : goal.pass_on-wire-requires-clause-own
-pass_on-wire-requires-clause-own c = (
+pass_on-wire-requires-clause-own g c = (
   c.enter.ensures.seat.0 ∙ c.requires.own.0,
   ap (λ (x : View). x.start) c.enter.ensures.came.0 ∙ c.requires.own.1,
 )
 
 pub pass_on-wire-requires-clause-slots : goal.pass_on-wire-requires-clause-slots
-pass_on-wire-requires-clause-slots c = (c.enter.ensures.seat.1, ap (λ (x : View). x.loads) c.enter.ensures.came.0 ∙ c.requires.slots.1)
+pass_on-wire-requires-clause-slots g c = (c.enter.ensures.seat.1, ap (λ (x : View). x.loads) c.enter.ensures.came.0 ∙ c.requires.slots.1)
 
 pub step-visit-requires-clause-own : goal.step-visit-requires-clause-own
-step-visit-requires-clause-own c = (
+step-visit-requires-clause-own g c = (
   c.pass_on-wire.ensures.seat.0 ∙ c.enter.ensures.seat.0 ∙ c.requires.own.0 ∙ ap (λ (h : FloorValue). h.table) (sym c.self.view_is),
   c.pass_on-wire.ensures.passed.start ∙ ap (λ (x : View). x.start) c.enter.ensures.came.0 ∙ c.requires.own.1
       ∙ ap (λ (h : FloorValue). h.start) (sym c.self.view_is),
 )
 
 pub step-visit-requires-clause-slots : goal.step-visit-requires-clause-slots
-step-visit-requires-clause-slots c = (
+step-visit-requires-clause-slots g c = (
   c.pass_on-wire.ensures.seat.1,
   c.pass_on-wire.ensures.passed.loads ∙ ap (λ (x : View). x.loads) c.enter.ensures.came.0
       ∙ c.requires.slots.1,
 )
 
 pub step-visit-requires-clause-ends : goal.step-visit-requires-clause-ends
-step-visit-requires-clause-ends c =
+step-visit-requires-clause-ends g c =
     ap (λ (n : Network). end_of n.table c.pass_on-wire.result)
     (ap (λ (h : FloorValue). h.start.network) c.self.view_is ∙ sym c.network-network.ensures.value) ∙ c.end.ensures.at ∙ c.in-Exit.is
 
 pub step-visit-requires-clause-stands : goal.step-visit-requires-clause-stands
-step-visit-requires-clause-stands c =
+step-visit-requires-clause-stands g c =
     subst (λ (n : Network). Stands n.table (Exit c.in-Exit.exit))
     (c.network-network.ensures.value ∙ ap (λ (h : FloorValue). h.start.network) (sym c.self.view_is))
     (subst (λ (e : End). Stands c.network-network.result.now.table e) c.in-Exit.is c.end.ensures.there)
 
 pub returns-clause-exit : goal.returns-clause-exit
-returns-clause-exit c =
+returns-clause-exit g c =
     subst (λ (n : Network). Stands n.table (Exit c.in-Exit.exit)) c.network-network.ensures.value
     (subst (λ (e : End). Stands c.network-network.result.now.table e) c.in-Exit.is c.end.ensures.there)
 
 pub end-requires : goal.end-requires
-end-requires c =
+end-requires g c =
     let v : View = c.args.seat.now.me.0 in
     let wires : length c.pass_on-wire.new.seat.me.0.tokens ≡ length v.tokens =
     c.pass_on-wire.ensures.passed.wires ∙ ap (λ (x : View). length x.tokens) c.enter.ensures.came.0
@@ -130,6 +130,6 @@ end-requires c =
     )
 
 pub unreachable-requires : goal.unreachable-requires
-unreachable-requires c =
+unreachable-requires g c =
     let (i, ends) = c.pass_on-wire.ensures.exit in
     cc (ends, c.network-network.ensures.value, c.end.ensures.at, c.in-Balancer.is)

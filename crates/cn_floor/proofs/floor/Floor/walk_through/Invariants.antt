@@ -1,7 +1,7 @@
 use Rattle.cn_floor.proofs.floor.Floor.walk_through.Given as goal
 
 abbrev pub ghosts-enter : goal.ghosts-enter
-ghosts-enter a = record { coming = record { start = a.self.now.start; token = a._token; client = a._client; entry = a.entry } }
+ghosts-enter g a = record { coming = record { start = a.self.now.start; token = a._token; client = a._client; entry = a.entry } }
 
 abbrev pub ghosts-step : goal.ghosts-step
-ghosts-step a = record { going = record { start = a.self.now.start; token = a._token; client = a._client; wire = a._wire; end = a.end } }
+ghosts-step g a = record { going = record { start = a.self.now.start; token = a._token; client = a._client; wire = a._wire; end = a.end } }

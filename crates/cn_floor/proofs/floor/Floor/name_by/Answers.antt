@@ -6,10 +6,10 @@ use Rattle.cn_floor.specs.Named.{WalksThrough}
 use Rattle.cn_floor.specs.Rule.{FitsLanes}
 use Rattle.cn_floor.proofs.AtClose.Rises.{all-empty}
 use Rattle.cn_floor.proofs.InLane.Lanes.{lane-with-way}
-use Rattle.cn_floor.proofs.floor.Floor.name.Goals as goal
+use Rattle.cn_floor.proofs.floor.Floor.name_by.Goals as goal
 
 pub grant_one-grant-requires-clause-out : goal.grant_one-grant-requires-clause-out
-grant_one-grant-requires-clause-out c u =
+grant_one-grant-requires-clause-out g c u =
     let held : lane_of c.lane.inside ≡ c.args.lane.now = c.lane.view_is in
     let nobody : tokens_in c.lane.inside.yard.lists ≡ 0 = ap (λ (l : LaneValue). tokens_in l.yard.lists) held ∙ c.requires.out in
     subst (λ (ls : Lists). on ls u ≡ []) c.lane.invariant.tokens
@@ -17,11 +17,11 @@ grant_one-grant-requires-clause-out c u =
 
 -- if the grant gets no memory the lane is as it was
 pub invariant_of-lane : goal.invariant_of-lane
-invariant_of-lane c =
+invariant_of-lane g c =
     lane-with-way c.lane.inside c.make_way.new.grants c.lane.invariant c.make_way.ensures.items c.make_way.ensures.room
 
 pub invariant_of-lane-2 : goal.invariant_of-lane-2
-invariant_of-lane-2 c =
+invariant_of-lane-2 g c =
     let was = c.lane.invariant in
     let is = c.grant_one-grant.ensures.granted in
     let grant : Grant = c.grant_one-grant.result in
@@ -44,11 +44,10 @@ invariant_of-lane-2 c =
         ap (λ (gs : List Grant). length gs) c.push_reserved.ensures.items,
         length_push c.make_way.new.grants.items grant,
       );
-      spare = omega (arith, was.spare, c.saturating_sub-lane-inside.ensures);
     }
 
 pub returns-clause-ok : goal.returns-clause-ok
-returns-clause-ok c =
+returns-clause-ok g c =
     let v : View = c.lane.inside.seat.me.0 in
     let w : View = c.grant_one-grant.new.seat.me.0 in
     let grant : Grant = c.grant_one-grant.result in
@@ -77,26 +76,26 @@ returns-clause-ok c =
     }
 
 pub make_way-requires-clause-room : goal.make_way-requires-clause-room
-make_way-requires-clause-room c = c.lane.invariant.room
+make_way-requires-clause-room g c = c.lane.invariant.room
 
 pub make_way-requires-clause-more : goal.make_way-requires-clause-more
-make_way-requires-clause-more c = omega arith
+make_way-requires-clause-more g c = omega arith
 
 pub grant_one-grant-requires-clause-own : goal.grant_one-grant-requires-clause-own
-grant_one-grant-requires-clause-own c =
+grant_one-grant-requires-clause-own g c =
     let home : (lane_of c.lane.inside).home ≡ c.args.self.now = ap (λ (l : LaneValue). l.home) c.lane.view_is ∙ c.requires.own in
     (ap (λ (h : FloorValue). h.table) home, ap (λ (h : FloorValue). h.start) home)
 
 pub grant_one-grant-requires-clause-slots : goal.grant_one-grant-requires-clause-slots
-grant_one-grant-requires-clause-slots c = (c.lane.invariant.no_slot, c.lane.invariant.idle)
+grant_one-grant-requires-clause-slots g c = (c.lane.invariant.no_slot, c.lane.invariant.idle)
 
 pub grant_one-grant-requires-clause-wires : goal.grant_one-grant-requires-clause-wires
-grant_one-grant-requires-clause-wires c =
+grant_one-grant-requires-clause-wires g c =
     let home : (lane_of c.lane.inside).home ≡ c.args.self.now = ap (λ (l : LaneValue). l.home) c.lane.view_is ∙ c.requires.own in
     sym (ap length c.lane.invariant.tokens) ∙ c.lane.invariant.wires ∙ ap (λ (h : FloorValue). length h.start.network.table.ends) home
 
 pub grant_one-grant-requires-clause-entry : goal.grant_one-grant-requires-clause-entry
-grant_one-grant-requires-clause-entry c =
+grant_one-grant-requires-clause-entry g c =
     omega (
       arith,
       c.if-entry-from.false,
@@ -106,12 +105,12 @@ grant_one-grant-requires-clause-entry c =
     )
 
 pub grant_one-grant-requires-clause-quota : goal.grant_one-grant-requires-clause-quota
-grant_one-grant-requires-clause-quota c =
+grant_one-grant-requires-clause-quota g c =
     omega (arith, c.if-quota-eq0, c.quota.ensures, ap (λ (l : LaneValue). l.view.quota) c.lane.view_is)
 
 pub push_reserved-requires : goal.push_reserved-requires
-push_reserved-requires c = omega (arith, c.in-Ok.ensures.ok)
+push_reserved-requires g c = omega (arith, c.in-Ok.ensures.ok)
 
 pub overflow_sub-lane : goal.overflow_sub-lane
-overflow_sub-lane c =
+overflow_sub-lane g c =
     omega (arith, c.if-quota-eq0, c.quota.ensures, c.lane.invariant.quota, ap (λ (l : LaneValue). l.view.quota) c.lane.view_is)

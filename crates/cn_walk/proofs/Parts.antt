@@ -1,24 +1,24 @@
 -- Two walks side by side, and their lanes taken together.
-use Rattle.std.proofs.Common.{rules, Option, Some, None, IfSome, ◌≡◌, ℕ, ◌+◌, ◌-◌, ◌*◌, ◌/◌, ◌<◌, ◌≤◌, subst, eqb, cond, List, [], ◌++◌, length, map, max, sym, refl, ap, ◌∙◌, arith, append-nil}
+use Rattle.std.proofs.Common.{rules, Option, Some, None, IfSome, ◌≡◌, ℕ, ◌+◌, ◌-◌, ◌*◌, ◌/◌, ◌<◌, ◌≤◌, subst, eqb, cond, List, [], ◌++◌, length, map, max, min, sym, refl, ap, ◌∙◌, arith, append-nil}
 use Rattle.std.proofs.Math.Nat.{div-mul-le_self, mul-le-mul_right}
 use Rattle.std.proofs.lemmas.List.{append_assoc, map-append}
 use Rattle.std.proofs.lemmas.Nat.{le-div}
 use Rattle.std.proofs.lemmas.List.Sums.{sum_by-append}
 use Rattle.cn_ledger.specs.declared.client.Client.{Client}
 use Rattle.cn_walk.specs.declared.forking.Lanes.{Lanes}
-use Rattle.cn_walk.specs.declared.forking.Lanes.TheVariants.{One, Halves'}
+use Rattle.cn_walk.specs.declared.forking.Lanes.TheVariants.{One, Fork'}
 use Rattle.cn_floor.specs.declared.view.Grant.{Grant}
-use Rattle.cn_walk.specs.Halves.{AreOf, AreReady, HasNothing, IsOne, IsPair, IsReady, first_position, together, whole}
-use Rattle.cn_floor.specs.Lane.{FloorValue, LaneValue, empty_lane, with_room}
+use Rattle.cn_walk.specs.Parts.{AreOf, AreReady, HasNothing, IsOne, IsPair, IsReady, first_position, together, whole}
+use Rattle.cn_floor.specs.Lane.{FloorValue, LaneValue, empty_lane, with_rooms}
 use Rattle.cn_floor.specs.Views.{after_look, after_split, split_off}
 use Rattle.cn_walk.specs.Walks.{WalksAll}
 use Rattle.cn_floor.proofs.CallerLemmas.{nobody-in}
 use Rattle.cn_walk.proofs.Walks.{length-both}
 
--- how many pairs of halves there are
+-- how many forks there are
 abbrev pub nodes : Lanes → ℕ
 nodes (One lane worker) = 0
-nodes (Halves' at p left q right) = nodes left + nodes right + 1
+nodes (Fork' at p left q right) = nodes left + nodes right + 1
 
 -- what a lane that had nothing has is put last
 put_last : {X : Type 0} (a b xs ys : List X) → b ≡ [] → (a ++ xs) ++ (b ++ ys) ≡ (a ++ b) ++ (xs ++ ys)
@@ -38,6 +38,7 @@ both-walked a b c d xs ys none p q =
       out = p.out;
       quota = omega (arith, p.quota, q.quota, length-both xs ys);
       room = omega (arith, p.room, length-both xs ys, many, for2.as_many, ap length none.grants);
+      spare = p.spare;
       entries = (λ i. p.entries i ++ q.entries i) ∙ put_last a.view.entries b.view.entries (map entry xs) (map entry ys) none.entries
           ∙ ap (λ (es : List ℕ). (a.view.entries ++ b.view.entries) ++ es) (sym (map-append entry xs ys));
       came = (λ i. p.came i ++ q.came i) ∙ put_last a.view.came b.view.came xs ys none.came;
@@ -60,9 +61,9 @@ both-walked a b c d xs ys none p q =
     }
 
 -- lanes that are ready are so as one
-pub whole-ready : (home : FloorValue) (n : ℕ) (lanes : Lanes) → AreReady home n lanes → IsReady home n (whole lanes)
-whole-ready home n (One lane worker) r = r
-whole-ready home n (Halves' at p left q right) r = r.0
+pub whole-ready : (home : FloorValue) (n hand : ℕ) (lanes : Lanes) → AreReady home n hand lanes → IsReady home n hand (whole lanes)
+whole-ready home n hand (One lane worker) r = r
+whole-ready home n hand (Fork' at p left q right) r = r.0
 
 -- a later worker's clients come later
 pub first-later : (k w a b : ℕ) → 0 < w → a ≤ b → first_position k w a ≤ first_position k w b
@@ -73,7 +74,7 @@ pub none_before : (k w from middle to : ℕ) (lanes : Lanes) → from ≤ middle
     → AreOf k w middle to lanes → AreOf k w from to lanes
 none_before k w from middle to (One lane worker) before same (low, high, first, last) =
     (omega (arith, before, low), high, first ∙ same, last)
-none_before k w from middle to (Halves' at p left q right) before same (m, low, high, is, some, less, one, two) = (
+none_before k w from middle to (Fork' at p left q right) before same (m, low, high, is, some, less, one, two) = (
   m,
   omega (arith, before, low),
   high,
@@ -87,13 +88,13 @@ none_before k w from middle to (Halves' at p left q right) before same (m, low, 
 pub none_after : (k w from middle to : ℕ) (lanes : Lanes) → middle ≤ to → first_position k w middle ≡ first_position k w to
     → AreOf k w from middle lanes → AreOf k w from to lanes
 none_after k w from middle to (One lane worker) after same (low, high, first, last) = (low, omega (arith, after, high), first, last ∙ same)
-none_after k w from middle to (Halves' at p left q right) after same (m, low, high, is, some, less, one, two) =
+none_after k w from middle to (Fork' at p left q right) after same (m, low, high, is, some, less, one, two) =
     (m, low, omega (arith, after, high), is, some, omega (arith, less, same), one, none_after k w m middle to right after same two)
 
 -- a lane for which more is reserved, of which some is split off, and the one that is split off
-pub reserved-nothing : (n : ℕ) (a b : LaneValue) → HasNothing a → b ≡ with_room n a → HasNothing b
-reserved-nothing n a b is same = subst HasNothing (sym same)
-    (record { inside = is.inside; entries = is.entries; came = is.came; grants = is.grants })
+pub reserved-nothing : (n records : ℕ) (a b : LaneValue) → HasNothing a → b ≡ with_rooms n records a → HasNothing b
+reserved-nothing n records a b is same =
+    subst HasNothing (sym same) (record { inside = is.inside; entries = is.entries; came = is.came; grants = is.grants })
 
 pub left-nothing : (q : ℕ) (a b : LaneValue) → HasNothing a → b ≡ record a { view = after_look (after_split q a.view) } → HasNothing b
 left-nothing q a b is same = subst HasNothing (sym same)
@@ -103,12 +104,13 @@ pub right-nothing : (q : ℕ) (a b : LaneValue) → b ≡ record (empty_lane a.h
 right-nothing q a b same = subst HasNothing (sym same)
     (record { inside = nobody-in (length a.home.start.network.table.ends); entries = refl; came = refl; grants = refl })
 
--- two halves that are ready
-pub both-ready : (home : FloorValue) (n at : ℕ) (left right : Lanes) → at ≤ n → n ≤ (whole left).room → AreReady home at left
-    → AreReady home (n - at) right → IsReady home n (together (whole left) (whole right))
-both-ready home n at left right h room a b =
-    let x = whole-ready home at left a in
-    let y = whole-ready home (n - at) right b in
+-- two parts that are ready
+pub both-ready : (home : FloorValue) (n at hand : ℕ) (left right : Lanes) → at ≤ n → n ≤ (whole left).room
+    → min n hand ≤ (whole left).yard.spare
+    → AreReady home at hand left → AreReady home (n - at) hand right → IsReady home n hand (together (whole left) (whole right))
+both-ready home n at hand left right h room spare a b =
+    let x = whole-ready home at hand left a in
+    let y = whole-ready home (n - at) hand right b in
     record {
       home_is = x.home_is;
       nothing = record {
@@ -119,15 +121,16 @@ both-ready home n at left right h room a b =
       };
       quota = omega (arith, x.quota, y.quota);
       room = omega (arith, ap (λ (gs : List Grant). length gs) y.nothing.grants);
+      spare = spare;
     }
 
 -- what a pair is ready for
-pub pair-ready : (home : FloorValue) (n at r : ℕ) (left right lanes : Lanes) → IsPair at left right lanes → at ≤ n → n ≤ (whole left).room
-    → AreReady home at left → AreReady home r right → r ≡ n - at
-    → AreReady home n lanes
-pair-ready home n at r left right lanes is less room a b rest =
-    let second : AreReady home (n - at) right = subst (λ (k : ℕ). AreReady home k right) rest b in
-    is.ready home n (both-ready home n at left right less room a second) less a second
+pub pair-ready : (home : FloorValue) (n at r hand : ℕ) (left right lanes : Lanes) → IsPair at left right lanes → at ≤ n
+    → n ≤ (whole left).room → min n hand ≤ (whole left).yard.spare
+    → AreReady home at hand left → AreReady home r hand right → r ≡ n - at → AreReady home n hand lanes
+pair-ready home n at r hand left right lanes is less room spare a b rest =
+    let second : AreReady home (n - at) hand right = subst (λ (k : ℕ). AreReady home k hand right) rest b in
+    is.ready home n hand (both-ready home n at hand left right less room spare a second) less a second
 
 pub some_so : {X : Type 0} (P Q : X → Type 0) (o : Option X) → ((x : X) → P x → Q x) → IfSome o P → IfSome o Q
 some_so P Q None f p = search rules
@@ -136,4 +139,4 @@ some_so P Q (Some x) f p = f x p
 -- one worker has a single lane
 pub one-worker : (k w from to : ℕ) (lanes : Lanes) → to ≤ from + 1 → AreOf k w from to lanes → IsOne lanes
 one-worker k w from to (One lane worker) few is = tt
-one-worker k w from to (Halves' at p left q right) few (m, low, high, is, some, less, one, two) = absurd (omega (arith, few, low, high))
+one-worker k w from to (Fork' at p left q right) few (m, low, high, is, some, less, one, two) = absurd (omega (arith, few, low, high))
