@@ -9,5 +9,5 @@ pub use Rattle.std.proofs.lemmas.List.Elements.{filter-append, filter_map-append
 pub use Rattle.std.proofs.lemmas.List.Sums.{fold-append, sum_by-cons, sum_by_push, sum_by-drop_more}
 pub use Rattle.cn_spec.specs.Step.{counts_of, shares, counts_after, shares_after, share}
 pub use Rattle.cn_spec.specs.declared.limits.TheConstants.{MOST_RECORDS, MOST_CLIENTS}
-pub use Rattle.cn_report.specs.Reading.Records.{Record, records_of, HasRead, IsOfReader, IsPlain}
+pub use Rattle.cn_report.specs.Reading.Records.{Record, records_of, HasRead, IsPlain}
 pub use Rattle.cn_report.specs.Writing.Pieces.{IsOnItsWay, Pending, Puts, nothing_put}

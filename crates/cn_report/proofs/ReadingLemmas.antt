@@ -14,4 +14,5 @@ pub mod Results
 pub mod ScheduleRecords
 pub mod ServableEpochs
 pub mod Stretches
+pub mod Told
 pub mod UniqueBatch

@@ -7,7 +7,7 @@ pub(crate) mod clipped;
 mod command;
 pub(crate) mod number;
 pub(crate) mod records;
-mod scatter;
+pub(crate) mod scatter;
 mod schedule;
 mod schedule_fault;
 

@@ -1,5 +1,5 @@
 -- The records of a batch that were taken so far.
-use Rattle.cn_report.proofs.Common.{◌≡◌, ℕ, List, ◌∷◌, [], ◌++◌, Some, None, drop, refl, arith, ap, ◌∙◌, length-append, Ok, filter_map-append, Record}
+use Rattle.cn_report.proofs.Common.{◌≡◌, List, ◌∷◌, [], ◌++◌, Some, None, drop, refl, arith, ap, ◌∙◌, length-append, Ok, filter_map-append, Record}
 use Rattle.std.specs.Result.{result_ok}
 use Rattle.cn_report.specs.Reading.Arrival.{arrival_cause, arrival_in, arrivals_in, spelled_cause}
 use Rattle.cn_report.specs.Reading.Batch.{IsBatch, AreEpochsOf, cause_of_heading, header_cause, record_cause}

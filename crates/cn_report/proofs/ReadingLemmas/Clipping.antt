@@ -1,7 +1,5 @@
 -- A text that is clipped has a first record that is no header, as the whole of it has.
-use Rattle.cn_report.proofs.Common.{◌≡◌, ◌≢◌, ◌<◌, ◌≤◌, ◌+◌, ◌⊎◌, ℕ, List, [], ◌∷◌, ◌++◌, true, false, Bool, Option, Some, None, length, get_or, refl, arith, suc, zero, sym, ap, ◌∙◌, cond, subst, ◌==◌, ◌||◌, ◌&&◌, inl, inr, ⊤, nat_lt, nat_le, leb_tells, eqb_tells, nat_tests, add-one, IfSome, option_map, Record, records_of, take, drop, take_more, drop_more, take-take, append_assoc}
-use Rattle.std.proofs.lemmas.List.{drop_all}
-use Rattle.std.specs.Io.KnownBytes.{Consumes, IsAtEnd, Keeps}
+use Rattle.cn_report.proofs.Common.{◌≡◌, ◌≢◌, ◌<◌, ◌≤◌, ◌+◌, ◌⊎◌, ℕ, List, [], ◌∷◌, ◌++◌, true, false, Bool, Option, Some, None, length, get_or, refl, arith, sym, ap, ◌∙◌, cond, subst, ◌==◌, ◌||◌, ◌&&◌, inl, inr, ⊤, nat_lt, leb_tells, eqb_tells, nat_tests, add-one, IfSome, option_map, Record, records_of}
 use Rattle.std.specs.Cmp.Lexicographic.{pointwise}
 use Rattle.std.specs.Str.{bytes_eq}
 use Rattle.std.proofs.lemmas.Slice.Eq.{bytes_eq-Decides, slice_eq-Decides}
@@ -12,11 +10,10 @@ use Rattle.csv.specs.declared.parser.Action.TheVariants as act
 use Rattle.csv.specs.declared.parser.State.{State}
 use Rattle.csv.specs.declared.parser.State.TheVariants as st
 use Rattle.cn_spec.specs.Sums.{times}
-use Rattle.cn_spec.proofs.Times.{times-append, times-nil}
-use Rattle.cn_report.specs.Reading.Clipped.{after_byte, clipped, comma, is_over}
+use Rattle.cn_report.specs.Reading.Clipped.{after_byte, clipped, is_over}
 use Rattle.cn_report.specs.declared.reading.clipped.Line.{Line}
 use Rattle.cn_report.specs.declared.reading.clipped.Line.TheVariants.{Header, Later}
-use Rattle.cn_report.proofs.ReadingLemmas.Commas.{AfterComma, AfterOther, Found, IsMany, TakesComma, comma-step, is_comment, is_newline, many, other-step, weight, weight-comma, weight-idle, found-by, next-end, next-on}
+use Rattle.cn_report.proofs.ReadingLemmas.Commas.{AfterComma, AfterOther, Found, IsMany, comma-step, is_comment, is_newline, many, other-step, weight, weight-comma, weight-idle, found-by, next-end, next-on}
 
 -- fields that no header has
 abbrev pub IsNone : List (List ℕ) → Type 0

@@ -1,21 +1,13 @@
 -- The commas of a record, as csv's machine takes them.
-use Rattle.cn_report.proofs.Common.{◌≡◌, ◌≢◌, ◌<◌, ◌≤◌, ◌+◌, ◌⊎◌, ℕ, List, [], ◌∷◌, ◌++◌, true, false, Bool, Option, Some, None, length, get_or, refl, arith, suc, zero, sym, ap, ◌∙◌, cond, subst, ◌==◌, ◌||◌, ◌&&◌, inl, inr, ⊤, nat_lt, nat_le, leb_tells, eqb_tells, nat_tests, add-one, IfSome, option_map, Record, records_of, take, drop, take_more, drop_more, take-take, append_assoc}
-use Rattle.std.proofs.lemmas.List.{drop_all}
-use Rattle.std.specs.Io.KnownBytes.{Consumes, IsAtEnd, Keeps}
-use Rattle.std.specs.Cmp.Lexicographic.{pointwise}
-use Rattle.std.specs.Str.{bytes_eq}
-use Rattle.std.proofs.lemmas.Slice.Eq.{bytes_eq-Decides, slice_eq-Decides}
+use Rattle.cn_report.proofs.Common.{◌≡◌, ◌≢◌, ◌≤◌, ◌+◌, ◌⊎◌, ℕ, List, [], ◌∷◌, ◌++◌, true, false, Bool, Option, Some, refl, arith, sym, ◌∙◌, cond, subst, ◌==◌, ◌||◌, inl, inr, ⊤, eqb_tells}
 use Rattle.csv.specs.Machine.{Read, ends_at_end, field_after, fields_after, is_end, next_record, step}
-use Rattle.csv.specs.Reading.{default_config, is_bom, records, records_from, strip_bom}
+use Rattle.csv.specs.Reading.{default_config}
 use Rattle.csv.specs.declared.parser.Action.{Action}
 use Rattle.csv.specs.declared.parser.Action.TheVariants as act
 use Rattle.csv.specs.declared.parser.State.{State}
 use Rattle.csv.specs.declared.parser.State.TheVariants as st
 use Rattle.cn_spec.specs.Sums.{times}
 use Rattle.cn_spec.proofs.Times.{times-append, times-nil}
-use Rattle.cn_report.specs.Reading.Clipped.{after_byte, clipped, comma, is_over}
-use Rattle.cn_report.specs.declared.reading.clipped.Line.{Line}
-use Rattle.cn_report.specs.declared.reading.clipped.Line.TheVariants.{Header, Later}
 
 -- ---- one step
 

@@ -1,10 +1,8 @@
 -- The list of the records of a text, and the records that were read so far.
-use Rattle.cn_report.proofs.Common.{◌≡◌, ◌<◌, ◌≤◌, ◌+◌, ◌-◌, ℕ, List, [], ◌∷◌, ◌++◌, true, false, Bool, Option, Some, None, length, refl, arith, suc, zero, sym, ap, ◌∙◌, cond, subst, ◌==◌, ◌||◌, append-nil, IfSome, option_map, HasRead, IsOfReader, Record, records_of}
+use Rattle.cn_report.proofs.Common.{◌≡◌, ◌<◌, ◌≤◌, ◌+◌, ◌-◌, ℕ, List, [], ◌∷◌, ◌++◌, true, false, Bool, Option, Some, None, length, refl, arith, suc, zero, sym, ap, ◌∙◌, cond, subst, ◌==◌, ◌||◌, append-nil, IfSome, option_map, HasRead, Record, records_of}
 use Rattle.csv.specs.Machine.{Read, ends_at_end, field_after, fields_after, is_end, next_record, step}
 use Rattle.std.specs.Bool.{MatchBool}
-use Rattle.csv.specs.Reading.{ExplainsRead, Reached, ReadRecord, default_config, is_flexible, reader_config, reader_state, records_from, source_of, strip_bom}
-use Rattle.csv.specs.declared.error.ErrorKind.{ErrorKind}
-use Rattle.csv.specs.declared.error.ErrorKind.TheVariants as error
+use Rattle.csv.specs.Reading.{Reached, ReadRecord, default_config, reader_config, reader_state, records_from, source_of, strip_bom}
 use Rattle.csv.specs.declared.reader.Reader.{Reader}
 use Rattle.csv.proofs.ReadFacts.{rows-end, rows-more}
 use Rattle.csv.specs.declared.parser.Action.{Action}
@@ -170,13 +168,3 @@ pub read-either : {R : Type 0} (rem : R → Option (List ℕ)) (a b : Reader R) 
     → ReadRecord rem a b found fields → MatchBool found (HasRead rem b text (records ++ fields ∷ [])) (records_of text ≡ records)
 read-either rem a b text records fields true read next = read_more rem a b text records fields read next
 read-either rem a b text records fields false read next = read_all rem a b text records fields read next
-
--- a reader that gives records of any length as they are fails only where the one underneath does, or a growth is refused
-pub plain-fails : {R : Type 0} (rem : R → Option (List ℕ)) (a b : Reader R) (why : ErrorKind) → is_flexible a ≡ true
-    → ExplainsRead rem a b false why → IsOfReader why
-plain-fails rem a b (error.Io e) flexible why = tt
-plain-fails rem a b error.OutOfMemory flexible why = tt
-plain-fails rem a b (error.Utf8 place e) flexible why = cc (why.0)
-plain-fails rem a b (error.UnequalLengths place wanted given) flexible why = cc (why.0)
-plain-fails rem a b (error.Serialize e) flexible why = absurd why
-plain-fails rem a b (error.Deserialize place e) flexible why = absurd why

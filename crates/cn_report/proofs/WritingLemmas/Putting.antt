@@ -1,7 +1,6 @@
 -- A text that is put in pieces, part by part.
 use Rattle.cn_report.proofs.Common.{add-one, zero-add, ◌∷◌, drop, get_or, ◌≡◌, ℕ, ◌+◌, ◌<◌, ◌≤◌, true, false, List, [], ◌++◌, Option, Result, Ok, Err, length, take, ap, ◌∙◌, sym, subst, append_assoc, append-nil, arith, length-append, length-take, take-append-drop, refl, IfErr, flat_map, range_with_len, flat_map_more, take_all, take_more, take-append-le, IsOnItsWay, Pending, Puts, nothing_put}
 use Rattle.std.proofs.Math.Seq.{take-length}
-use Rattle.std.proofs.lemmas.Grind.{flat_map-append}
 use Rattle.cn_spec.proofs.CallerLemmas.{range_more}
 use Rattle.std.specs.Io.KnownBytes.{Appends, Keeps}
 use Rattle.std.proofs.KnownBytes.{Appends-kept, Appends-nil, Appends-trans}
@@ -104,20 +103,22 @@ pub put-same : {W : Type 0} {contents : W → Option (List ℕ)} {a b : W} {p q 
     → Puts contents a b p q y
 put-same {contents = contents} {a = a} {b = b} {p = p} {q = q} same puts = subst (Puts contents a b p q) same puts
 
--- once a write failed, whatever follows is put
-pub put-rest : {W : Type 0} {contents : W → Option (List ℕ)} {a b : W} {p q : Pending} (x y : List ℕ) → q.failed ≡ true
-    → Puts contents a b p q x → Puts contents a b p q (x ++ y)
-put-rest {contents = contents} {a = a} {p = p} x y failed puts = record {
-  goes = λ before text left way.
-      let cut = puts.goes before text (y ++ left) (subst (IsOnItsWay before (contents a) p text) (append_assoc x y left) way) in
-      record {
-        out = cut.out;
-        rest = cut.rest;
-        grown = cut.grown;
-        counted = cut.counted;
-        whole = cut.whole;
-        held = λ still. absurd (let none : true ≡ false = sym failed ∙ still in cc);
-      };
+-- nothing is put
+pub put-none : {W : Type 0} {contents : W → Option (List ℕ)} {a : W} {p : Pending} → Puts contents a a p p []
+put-none = record { goes = λ before text left way. way }
+
+-- once a write failed, that counts as any bytes
+pub put-failed : {W : Type 0} {contents : W → Option (List ℕ)} {a : W} {p : Pending} {x : List ℕ} → p.failed ≡ true
+    → Puts contents a a p p x
+put-failed failed = record {
+  goes = λ before text left way. record {
+    out = way.out;
+    rest = way.rest;
+    grown = way.grown;
+    counted = way.counted;
+    whole = way.whole;
+    held = λ still. absurd (let none : true ≡ false = sym failed ∙ still in cc);
+  };
 }
 
 -- a text that is put from its beginning
@@ -133,10 +134,6 @@ put-all {contents = contents} {a = a} {p = p} {text = text} fresh puts =
       whole = refl;
       held = λ ok. sym (append-nil text) ∙ ap (λ (t : Pending). t.held ++ (text ++ [])) (sym fresh);
     })
-
--- nothing is put
-pub put-none : {W : Type 0} {contents : W → Option (List ℕ)} {a : W} {p : Pending} → Puts contents a a p p []
-put-none = record { goes = λ before text left way. way }
 
 -- the lines of the element at i, after those of the elements before it
 pub put-next : {W : Type 0} {contents : W → Option (List ℕ)} {a b d : W} {p q r : Pending} {X : Type 0} (f : X → List ℕ) (xs : List X)
@@ -168,14 +165,6 @@ pub put-lines : {W : Type 0} {contents : W → Option (List ℕ)} {a b : W} {p q
     → Puts contents a b p q (flat_map f (range_with_len 0 i))
     → Puts contents a b p q (flat_map f (range_with_len 0 n))
 put-lines f i n same puts = put-same (ap (λ k. flat_map f (range_with_len 0 k)) same) puts
-
--- once a write failed, those of all
-pub put-cut : {W : Type 0} {contents : W → Option (List ℕ)} {a b : W} {p q : Pending} {X : Type 0} (f : X → List ℕ) (xs : List X) (i : ℕ)
-    → q.failed ≡ true
-    → Puts contents a b p q (flat_map f (take i xs)) → Puts contents a b p q (flat_map f xs)
-put-cut f xs i failed puts =
-    put-same (sym (flat_map-append f (take i xs) (drop i xs)) ∙ ap (flat_map f) (take-append-drop i xs))
-    (put-rest (flat_map f (take i xs)) (flat_map f (drop i xs)) failed puts)
 
 -- what is written of a text is written of one with any property that follows
 pub written-map : {W : Type 0} (contents : W → Option (List ℕ)) (P Q : List ℕ → Type 0) (written : Written) (old new : W)

@@ -6,7 +6,9 @@ use Rattle.cn_spec.specs.Step.{IsEachBelow}
 use Rattle.cn_spec.specs.Sums.{times}
 use Rattle.cn_report.specs.Reading.Faults.{IsClean, IsFirstFault, cause_by}
 use Rattle.cn_report.specs.Grants.Granted.{grant_spelled, grants_spelled, has_name, of_epoch, spelled_cause, spelled_form}
-use Rattle.cn_report.specs.Reading.Records.{Record}
+use Rattle.csv.specs.Reading.{has_failed, reader_source}
+use Rattle.csv.specs.declared.reader.Reader.{Reader}
+use Rattle.cn_report.specs.Reading.Records.{Record, fault_by}
 use Rattle.cn_report.specs.declared.grants.record.Granted.{Granted}
 use Rattle.cn_report.specs.declared.grants.record.GrantCause.{GrantCause}
 use Rattle.cn_report.specs.declared.grants.record.GrantCause.TheVariants as cause
@@ -36,6 +38,13 @@ flaw_of at cause.Form = Form at
 flaw_of at cause.DuplicateClient = DuplicateClient at
 flaw_of at cause.DuplicateName = DuplicateName at
 flaw_of at cause.Memory = Memory
+
+-- the flaw says why this reader has stopped, at some record, if it has; and a failed read is told of nothing else
+pub record IsFlawTold {R : Type 0} (failed : R → Bool) (reader : Reader R) (flaw : Flaw) : Type 0 where
+  pub at : ℕ
+  pub stopped : has_failed reader ≡ true
+      → flaw ≡ flaw_of at (grant_cause_of_fault (fault_by (failed (reader_source reader))))
+  pub read : (n : ℕ) → flaw ≡ Read n → has_failed reader ≡ true
 
 -- the fields of the header of a grant list
 abbrev pub is_grants_header : Record → Bool

@@ -1,5 +1,5 @@
 -- A stretch of a batch: arrivals that are read together, before they are gathered.
-use Rattle.std.specs.Prelude.{ℕ, ◌≡◌, ◌<◌, ◌+◌, ◌⊎◌, ◌++◌, ◌∷◌, [], Bool, List, Option, Result, MatchResult, IfErr, IfOk, OnOk, Ok, Err, Some, true, drop, length, map}
+use Rattle.std.specs.Prelude.{ℕ, ◌≡◌, ◌≢◌, ◌<◌, ◌+◌, ◌⊎◌, ◌++◌, ◌∷◌, [], Bool, List, Option, Result, MatchResult, IfErr, IfOk, OnOk, Ok, Err, Some, true, drop, length, map}
 use Rattle.std.specs.Bool.{MatchBool}
 use Rattle.cn_report.specs.Reading.Arrival.{arrival_in, arrivals_in}
 use Rattle.cn_report.specs.Reading.Batch.{IsBatchFault, IsOfReading, batch_cause}
@@ -14,6 +14,7 @@ use Rattle.cn_report.specs.declared.reading.batch.arrivals.ArrivalReader.{Arriva
 use Rattle.cn_report.specs.declared.reading.batch.gathering.Gathering.{Gathering}
 use Rattle.cn_report.specs.declared.reading.batch.arrival.Heading.{Heading}
 use Rattle.cn_report.specs.declared.reading.batch_fault.BatchCause.{BatchCause}
+use Rattle.cn_report.specs.declared.reading.batch_fault.BatchCause.TheVariants.{Read}
 use Rattle.cn_report.specs.declared.reading.batch_fault.BatchFault.{BatchFault}
 use Rattle.csv.specs.declared.reader.Reader.{Reader}
 
@@ -85,6 +86,7 @@ pub record Gathers (bounds : Bounds) (arrivals : List Arrival) (old new : Gather
   pub next : OnOk result (new.next ≡ old.next + length arrivals)
   -- a fault is reported at the record that was being gathered
   pub at : IfErr result (λ fault. fault.at ≡ new.next)
+  pub own : IfErr result (λ fault. fault.cause ≢ Read)
   pub answer : (heading : Heading) (before records later : List Record) (came : List Arrival)
       → AreTaken heading bounds before came → IsGathered old came → AreSpelled heading bounds records arrivals
       → MatchResult result

@@ -1,5 +1,5 @@
 -- A text on its way to a writer, in pieces.
-use Rattle.std.specs.Prelude.{ℕ, ◌≡◌, Bool, false, List, [], ◌++◌, Option, length}
+use Rattle.std.specs.Prelude.{ℕ, ◌≡◌, Bool, false, true, List, [], ◌++◌, Option, length}
 use Rattle.std.specs.Io.KnownBytes.{Appends}
 
 -- the bytes that were put and are not yet written, how many were written before them, and whether a write failed
@@ -21,6 +21,10 @@ pub record IsOnItsWay (before now : Option (List ℕ)) (pending : Pending) (text
   pub counted : pending.written ≡ length out
   pub whole : text ≡ out ++ rest
   pub held : pending.failed ≡ false → rest ≡ pending.held ++ left
+
+-- once a write failed, nothing is put
+abbrev pub RestsIfFailed : {W : Type 0} → W → W → Pending → Pending → Type 0
+RestsIfFailed old new from to = from.failed ≡ true → (to ≡ from) × (new ≡ old)
 
 -- these bytes are put: if they are the next of a text, what follows them is left of it
 pub record Puts {W : Type 0} (contents : W → Option (List ℕ)) (old new : W) (from to : Pending)

@@ -1,6 +1,6 @@
 //! The epochs of a grant list, as its records come.
 
-ghost use Rattle.std.specs.Prelude.{◌≡◌, ◌==◌, ◌||◌, ◌<◌, ◌≤◌, ◌+◌, ◌⊎◌, ◌∷◌, ◌++◌, ℕ, [], List, None, Some, OnOk, IfErr, IfOk, MatchResult, length, map};
+ghost use Rattle.std.specs.Prelude.{◌≡◌, ◌≢◌, ◌==◌, ◌||◌, ◌<◌, ◌≤◌, ◌+◌, ◌⊎◌, ◌∷◌, ◌++◌, ℕ, [], List, None, Some, OnOk, IfErr, IfOk, MatchResult, length, map};
 ghost use Rattle.cn_report.specs.declared.grants.record.Granted.{Granted};
 ghost use Rattle.cn_report.specs.Grants.Granted.{spelled_cause};
 ghost use Rattle.cn_report.specs.Grants.Checked.{HoldsGrants, IsGapBelow, IsChecked, Tells, adding_cause, latest_seen};
@@ -11,6 +11,7 @@ ghost use Rattle.cn_spec.specs.declared.limits.TheConstants.{MOST_NAMED};
 
 use crate::grants::record::{Flaw, GrantCause, Granted};
 use crate::grants::sets::Numbers;
+use crate::reading::scatter::Scatter;
 use std::alloc::{AllocError, Global};
 
 /// A name that an epoch lacks.
@@ -43,7 +44,7 @@ pub(crate) struct Granting {
 
 impl Granting {
     /// What is known before the first record: no epoch, no gap.
-    pub(crate) fn new(alloc: Global) -> Self
+    pub(crate) fn new(alloc: Global, scatter: Scatter) -> Self
         ensures checked { IsChecked result [] }
         ensures count { result.count ≡ 0 }
     {
@@ -52,8 +53,8 @@ impl Granting {
             gap: None,
             latest: 0,
             count: 0,
-            clients: Numbers::new(alloc),
-            names: Numbers::new(alloc),
+            clients: Numbers::new(alloc, scatter),
+            names: Numbers::new(alloc, scatter),
         }
     }
 
@@ -128,6 +129,7 @@ impl Granting {
             × ((n : ℕ) → has self.new.names n ≡ ((n == grant.name) || has self.old.names n))) }
         ensures err { IfErr result (λ cause.
             (adding_cause self.old grant ≡ Some cause) ⊎ (cause ≡ GrantCause.Memory)) }
+        ensures own { IfErr result (λ cause. cause ≢ GrantCause.Read) }
     {
         match self.clients.add(at, grant.client) {
             Ok(true) => {}
@@ -156,6 +158,7 @@ impl Granting {
         ensures err { IfErr result (λ cause. (before : List Granted)
             → IsChecked self.old before → length before + 1 ≡ at
             → (spelled_cause most before (Some grant) ≡ Some cause) ⊎ (cause ≡ GrantCause.Memory)) }
+        ensures own { IfErr result (λ cause. cause ≢ GrantCause.Read) }
     {
         if grant.epoch < self.latest || at > most {
             return Err(GrantCause::Form);
@@ -172,6 +175,7 @@ impl Granting {
         ensures found { IfOk result (λ epochs. (grants : List Granted) → HoldsGrants self grants
             → Tells self grants
             → map plain_named epochs.items ≡ map (named_epoch grants) (epoch_numbers grants)) }
+        ensures own { IfErr result (λ flaw. (at : ℕ) → flaw ≢ Flaw.Read at) }
     {
         let mut granting = self;
         granting.end_latest()?;

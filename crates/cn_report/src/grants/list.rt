@@ -5,23 +5,28 @@ ghost use Rattle.std.specs.Bool.{MatchBool};
 ghost use Rattle.cn_spec.specs.declared.limits.TheConstants.{MOST_NAMED, MOST_RECORDS};
 ghost use Rattle.cn_report.specs.declared.grants.record.Granted.{Granted};
 ghost use Rattle.cn_report.specs.Grants.Granted.{grant_spelled, spelled_cause};
-ghost use Rattle.cn_report.specs.Grants.TightList.{IsFirstWithCause, IsFlaw, IsOutside, IsTightList, header_cause};
+ghost use Rattle.cn_report.specs.Grants.TightList.{IsFirstWithCause, IsFlaw, IsFlawTold, IsOutside, IsTightList, grant_cause_of_fault, header_cause};
 ghost use Rattle.cn_report.specs.Grants.Checked.{IsChecked};
 ghost use Rattle.cn_report.specs.Grants.Printed.{IsNamedList};
 ghost use Rattle.cn_report.specs.Reading.Bounds.{bounds_of};
-ghost use Rattle.cn_report.specs.Reading.Records.{HasRead, IsPlain, Record, records_of};
+ghost use Rattle.cn_report.specs.Reading.Records.{HasRead, IsPlain, IsTold, Record, records_of};
 
 use crate::grants::epochs::{Granting, NamedEpoch};
 use crate::grants::record::{Flaw, GrantCause, flaw_at, granted_of};
 use crate::reading::Bounds;
-use crate::reading::clipped::Clipped;
+use crate::reading::clipped::{Clipped, ReadTelling};
 use crate::reading::records::{is_header, next_record, open_records};
+use crate::reading::scatter::Scatter;
 use csv::{ByteRecord, Reader};
 use std::alloc::Global;
+use std::hash::RandomState;
 use std::io::Read;
 
 /// Takes the header.
-fn take_header<R: Read>(records: &mut Reader<R>, fields: &mut ByteRecord) -> Result<(), GrantCause>
+fn take_header<R: ReadTelling>(
+    records: &mut Reader<R>,
+    fields: &mut ByteRecord,
+) -> Result<(), GrantCause>
     requires { IsPlain records.old }
     ensures plain { OnOk result (IsPlain records.new) }
     ensures ok { IfOk result (λ _. (text : List ℕ) → HasRead R.remaining records.old text []
@@ -29,6 +34,7 @@ fn take_header<R: Read>(records: &mut Reader<R>, fields: &mut ByteRecord) -> Res
         × (header_cause fields ≡ None)) }
     ensures err { IfErr result (λ cause. (most : ℕ) (text : List ℕ) → HasRead R.remaining records.old text []
         → IsFirstWithCause most (records_of text) 0 cause) }
+    ensures told { IfErr result (IsTold R.failed grant_cause_of_fault records.new) }
 {
     if next_record(records, fields)? && is_header(fields, b"epoch", b"client", b"name") {
         Ok(())
@@ -38,7 +44,7 @@ fn take_header<R: Read>(records: &mut Reader<R>, fields: &mut ByteRecord) -> Res
 }
 
 /// Takes the grant of record `at`, of so many at most, and returns whether there was one.
-fn take_grant<R: Read>(
+fn take_grant<R: ReadTelling>(
     records: &mut Reader<R>,
     fields: &mut ByteRecord,
     most: u64,
@@ -65,6 +71,7 @@ fn take_grant<R: Read>(
         → ((fields : Record) × HasRead R.remaining records.new text (before ++ fields ∷ [])
         × (spelled_cause most grants (grant_spelled fields) ≡ Some cause))
         ⊎ (cause ≡ GrantCause.Read) ⊎ (cause ≡ GrantCause.Memory)) }
+    ensures told { IfErr result (IsTold R.failed grant_cause_of_fault records.new) }
     ensures few { IfOk result (λ found. found ≡ true → at ≤ most) }
     ensures count { IfOk result (λ found.
         MatchBool found (granting.new.count ≤ at) (granting.new.count < at)) }
@@ -80,19 +87,21 @@ fn take_grant<R: Read>(
 }
 
 /// Takes the header and the grants, of which there are so many at most.
-fn take_grants<R: Read>(
+fn take_grants<R: ReadTelling>(
     alloc: Global,
     records: &mut Reader<R>,
     fields: &mut ByteRecord,
     most: u64,
+    scatter: Scatter,
 ) -> Result<Vec<NamedEpoch>, Flaw>
     requires plain { IsPlain records.old }
     requires most { most ≤ MOST_NAMED }
     ensures answer { (text : List ℕ) → HasRead R.remaining records.old text []
         → let records = records_of text in
         MatchResult result (λ epochs. IsNamedList most records epochs.items) (IsFlaw most records) }
+    ensures told { IfErr result (IsFlawTold R.failed records.new) }
 {
-    let mut granting = Granting::new(alloc);
+    let mut granting = Granting::new(alloc, scatter);
     if let Err(cause) = take_header(records, fields) {
         return Err(flaw_at(0, cause));
     }
@@ -110,7 +119,8 @@ fn take_grants<R: Read>(
 /// Whether a grant list gives each epoch's clients the names below their number, each once: a header
 /// `epoch,client,name`, and then a record of three numbers for each grant, as `csv` reads them. An epoch is a run of
 /// records of one number, and the numbers rise. Of each epoch it returns the number, and how many clients it has: by
-/// any width exit i's share of so many is how many of the names are `i` modulo the width.
+/// any width exit i's share of so many is how many of the names are `i` modulo the width. Great numbers that do not
+/// come in order are hashed by two fixed numbers, so whoever wrote the list can make them slow to find.
 ///
 /// # Errors
 ///
@@ -123,10 +133,11 @@ pub fn named_grants<R: Read + Drop>(alloc: Global, reader: R) -> Result<Vec<Name
     ensures exact { IfSome (R.remaining reader) (λ text.
         IfErr result (λ flaw. IsTightList MOST_RECORDS (records_of text) → IsOutside flaw)) }
 {
-    named_grants_within(alloc, reader, false)
+    named_grants_within(alloc, reader, false, None)
 }
 
 /// As [`named_grants`], of a list which is large or not, and has as many grants as its bounds say ([`Bounds::of`]).
+/// With a random state whoever wrote the list cannot have chosen numbers that are slow to find.
 ///
 /// # Errors
 ///
@@ -135,6 +146,7 @@ pub fn named_grants_within<R: Read + Drop>(
     alloc: Global,
     reader: R,
     large: bool,
+    state: Option<RandomState>,
 ) -> Result<Vec<NamedEpoch>, Flaw>
     ensures answer { IfSome (R.remaining reader) (λ text. let most = (bounds_of large 0).records in
         MatchResult result (λ epochs. IsNamedList most (records_of text) epochs.items)
@@ -145,5 +157,6 @@ pub fn named_grants_within<R: Read + Drop>(
     let mut records = open_records(alloc, Clipped::new(reader))?;
     let mut fields = ByteRecord::new(alloc);
     let bounds = Bounds::of(large, 0);
-    take_grants(alloc, &mut records, &mut fields, bounds.records)
+    let scatter = Scatter::of(state);
+    take_grants(alloc, &mut records, &mut fields, bounds.records, scatter)
 }

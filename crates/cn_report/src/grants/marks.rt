@@ -3,7 +3,6 @@
 ghost use Rattle.std.specs.Prelude.{◌<◌, ◌≤◌, ◌^◌, ℕ, slice_index};
 
 use std::alloc::{AllocError, Global};
-use std::collections::BTreeSet;
 
 /// A set of numbers, with a place for each up to the greatest so far: a number is in the set if its place has the
 /// current stamp. So one step adds a number, and one step clears the set.
@@ -16,9 +15,8 @@ pub(crate) struct Marks {
 }
 
 impl Marks {
-    ghost use Rattle.std.specs.Prelude.{◌≡◌, ◌==◌, ◌||◌, IfOk, OnErr, OnOk, false, not};
-    ghost use Rattle.std.specs.BTreeSet.{contains};
-    ghost use Rattle.std.specs.Ordering.{nat_cmp};
+    ghost use Rattle.std.specs.Prelude.{◌≡◌, ◌==◌, ◌||◌, IfOk, OnErr, OnOk, false, nat_eq, not};
+    ghost use Rattle.std.specs.List.{list_any};
     ghost use Rattle.cn_report.specs.Grants.Marks.{is_marked};
 
     /// The empty set.
@@ -73,14 +71,14 @@ impl Marks {
     /// Adds those of the numbers that lie from `from` on and below `to`.
     pub(crate) fn add_between(
         &mut self,
-        numbers: &BTreeSet<u64>,
+        numbers: &[u64],
         from: u64,
         to: u64,
     ) -> Result<(), AllocError>
         requires { to ≤ 2 ^ 32 }
         ensures below { OnOk result ((n : ℕ) → n < from → is_marked self.new n ≡ is_marked self.old n) }
         ensures between { OnOk result ((n : ℕ) → from ≤ n → n < to
-            → is_marked self.new n ≡ (is_marked self.old n || contains nat_cmp numbers.now n)) }
+            → is_marked self.new n ≡ (is_marked self.old n || list_any (nat_eq n) numbers.now)) }
         ensures above { (n : ℕ) → to ≤ n → is_marked self.new n ≡ is_marked self.old n }
     {
         for number in numbers {

@@ -5,22 +5,23 @@ ghost use Rattle.cn_report.specs.Grants.Marks.{is_marked};
 ghost use Rattle.cn_spec.specs.declared.limits.TheConstants.{MOST_NAMED};
 
 use crate::grants::marks::Marks;
+use crate::reading::scatter::Scatter;
 use cn_spec::limits::{MOST_NAMED, MOST_RECORDS};
+use indexmap::IndexSet;
 use std::alloc::{AllocError, Global};
-use std::collections::BTreeSet;
 
 /// For each record that came there may be so many marks, or twice as many.
 const MARKS_FOR_RECORD: u64 = 8;
 
 /// A set of numbers. Those that come in order from 0 on are counted, the others below the bound are marked, and only
-/// those from it on are put into an ordered set. The bound is [`MOST_RECORDS`], and in a longer list it grows with the
+/// those from it on are put into a hashed set. The bound is [`MOST_RECORDS`], and in a longer list it grows with the
 /// records: so the room for marks grows with how many came, and not with the greatest number.
 #[derive(Drop)]
 pub(crate) struct Numbers {
     run: u64,
     bound: u64,
     marks: Marks,
-    others: BTreeSet<u64>,
+    others: IndexSet<u64, Scatter>,
     ghost within: { bound ≤ 2 * MOST_NAMED },
     ghost below: { (n : ℕ) → bound ≤ n → is_marked marks n ≡ false },
 }
@@ -31,14 +32,14 @@ impl Numbers {
     ghost use Rattle.cn_report.specs.Grants.TightList.{IsLeastMissing};
 
     /// The empty set.
-    pub(crate) fn new(alloc: Global) -> Self
+    pub(crate) fn new(alloc: Global, scatter: Scatter) -> Self
         ensures { (n : ℕ) → has result n ≡ false }
     {
         Numbers {
             run: 0,
             bound: MOST_RECORDS,
             marks: Marks::new(alloc),
-            others: BTreeSet::new(alloc),
+            others: IndexSet::with_hasher(alloc, scatter),
         }
     }
 
@@ -48,7 +49,8 @@ impl Numbers {
     {
         self.run = 0;
         self.marks.clear();
-        self.others.clear();
+        // Takes the time of the numbers that go. `clear` would take that of the whole table at each epoch.
+        self.others.truncate(0);
     }
 
     /// Whether a number is in the set.
@@ -64,7 +66,7 @@ impl Numbers {
         }
     }
 
-    /// Doubles the bound if the number is not below it and record `at` allows it, and marks those of the ordered set
+    /// Doubles the bound if the number is not below it and record `at` allows it, and marks those of the hashed set
     /// that are below it now. They stay there too, where nothing looks for them.
     fn widen(&mut self, at: u64, number: u64) -> Result<(), AllocError>
         ensures same { OnOk result ((n : ℕ) → has self.new n ≡ has self.old n) }
@@ -75,7 +77,8 @@ impl Numbers {
             return Ok(());
         }
         self.bound = 2 * from;
-        self.marks.add_between(&self.others, from, self.bound)
+        self.marks
+            .add_between(self.others.as_slice(), from, self.bound)
     }
 
     /// Adds a number of record `at`, and returns whether it is new.
@@ -94,10 +97,7 @@ impl Numbers {
         if number < self.bound {
             return self.marks.add(number);
         }
-        match self.others.insert(number) {
-            Ok(added) => Ok(added),
-            Err(_) => Err(AllocError),
-        }
+        Ok(self.others.insert(number)?)
     }
 
     /// The least number below the count that is missing.

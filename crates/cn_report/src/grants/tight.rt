@@ -6,7 +6,7 @@ ghost use Rattle.cn_spec.specs.Step.{shares};
 ghost use Rattle.cn_spec.specs.declared.limits.TheConstants.{MOST_ENDS};
 ghost use Rattle.cn_report.specs.Grants.TightText.{tight_counts, tight_end, tight_head, tight_line, tight_text};
 ghost use Rattle.cn_report.specs.Grants.Printed.{with_shares};
-ghost use Rattle.cn_report.specs.Writing.Pieces.{Puts, nothing_put};
+ghost use Rattle.cn_report.specs.Writing.Pieces.{Puts, RestsIfFailed, nothing_put};
 ghost use Rattle.cn_report.specs.Writing.Written.{First, HasWritten, written_by};
 
 use crate::grants::epochs::NamedEpoch;
@@ -41,11 +41,15 @@ fn send_shares<W: Write>(pieces: &mut Pieces, writer: &mut W, width: u32, client
     }
 }
 
-/// Sends the line of an epoch, as `epoch 1 clients 5 counts 2 1 1 1`.
+/// Sends the line of an epoch, as `epoch 1 clients 5 counts 2 1 1 1`, unless a write failed.
 fn send_named<W: Write>(pieces: &mut Pieces, writer: &mut W, width: u32, epoch: NamedEpoch)
     requires { width ≤ MOST_ENDS }
-    ensures { Puts W.contents writer.old writer.new pieces.old pieces.new (tight_line (with_shares width epoch)) }
+    ensures puts { Puts W.contents writer.old writer.new pieces.old pieces.new (tight_line (with_shares width epoch)) }
+    ensures rests { RestsIfFailed writer.old writer.new pieces.old pieces.new }
 {
+    if pieces.has_failed() {
+        return;
+    }
     send_head(pieces, writer, epoch.number, u64::from(epoch.clients));
     send_shares(pieces, writer, width, epoch.clients);
     pieces.put(writer, b"\n");
@@ -60,7 +64,7 @@ pub(crate) fn send_end<W: Write>(pieces: &mut Pieces, writer: &mut W, epochs: us
     pieces.put(writer, b"\n");
 }
 
-/// Sends the line of each epoch, until a write fails.
+/// Sends the line of each epoch.
 fn send_named_epochs<W: Write>(
     pieces: &mut Pieces,
     writer: &mut W,
@@ -72,9 +76,6 @@ fn send_named_epochs<W: Write>(
         (flat_map tight_line (map (with_shares width) epochs.now)) }
 {
     for epoch in epochs {
-        if pieces.has_failed() {
-            return;
-        }
         send_named(pieces, writer, width, *epoch);
     }
 }

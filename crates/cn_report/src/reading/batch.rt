@@ -5,20 +5,21 @@ mod arrivals;
 mod gathering;
 mod readers;
 
-ghost use Rattle.std.specs.Prelude.{◌≡◌, ◌↔◌, ◌<◌, ◌≤◌, [], ℕ, IfOk, IfSome, List, MatchResult, Ok, false, true};
+ghost use Rattle.std.specs.Prelude.{◌≡◌, ◌↔◌, ◌<◌, ◌≤◌, [], ℕ, IfErr, IfOk, IfSome, List, MatchResult, Ok, false, true};
 ghost use Rattle.cn_spec.specs.declared.limits.TheConstants.{MOST_RECORDS};
 ghost use Rattle.cn_report.specs.Reading.Batch.{AnswersBatch, AreServable, IsBatch, IsBatchFault, clients_of_epochs};
 ghost use Rattle.cn_report.specs.Reading.Bounds.{AreBounds, bounds_of};
 ghost use Rattle.cn_report.specs.Reading.Gathered.{IsGathered, StaysServable};
-ghost use Rattle.cn_report.specs.Reading.Records.{records_of};
+ghost use Rattle.cn_report.specs.Reading.Records.{HasStopped, records_of};
 ghost use Rattle.cn_report.specs.Reading.Stretch.{HasHeader, IsOpen};
+ghost use Rattle.cn_report.specs.declared.reading.records.RecordFault.TheVariants as no_record;
 
 use crate::reading::batch::arrivals::ArrivalReader;
 use crate::reading::batch::gathering::Gathering;
 use crate::reading::batch::readers::{OneThread, Readers, STRETCH, TwoThreads};
 use crate::reading::batch_fault::{BatchCause, BatchFault};
 use crate::reading::bounds::Bounds;
-use crate::reading::clipped::Clipped;
+use crate::reading::clipped::{Clipped, ReadTelling};
 use cn_ledger::Client;
 use std::alloc::Global;
 use std::hash::RandomState;
@@ -51,7 +52,7 @@ fn goes_on(end: Result<bool, BatchCause>) -> bool
 }
 
 /// The epochs of a batch of which the header was read.
-fn read_epochs<I: Read + Drop, T: Readers>(
+fn read_epochs<I: ReadTelling + Drop, T: Readers>(
     readers: &T,
     alloc: Global,
     source: &mut ArrivalReader<I>,
@@ -65,6 +66,8 @@ fn read_epochs<I: Read + Drop, T: Readers>(
         (IsBatchFault source.old.bounds (records_of text)) }
     ensures fits { IfOk result (λ epochs. AreServable source.old.bounds epochs.items) }
     ensures few { IfOk result (λ epochs. clients_of_epochs epochs.items ≤ source.old.bounds.records) }
+    ensures told { IfErr result (λ fault. fault.cause ≡ BatchCause.Read
+        → HasStopped I.failed source.new.records.value no_record.Read) }
 {
     let mut gathering = gathering;
     let (mut stretch, mut next) = (Vec::new(alloc), Vec::new(alloc));
@@ -92,7 +95,7 @@ fn read_epochs<I: Read + Drop, T: Readers>(
 }
 
 /// Reads a batch by one thread or by two.
-fn read_by<R: Read + Drop, T: Readers>(
+fn read_by<R: ReadTelling + Drop, T: Readers>(
     readers: &T,
     alloc: Global,
     reader: R,

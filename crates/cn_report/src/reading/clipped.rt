@@ -1,9 +1,20 @@
 //! A reader that ends where a header has a field too many.
 
-ghost use Rattle.std.specs.Prelude.{◌≡◌, ◌≤◌, ◌<◌, ◌++◌, [], ℕ, List, false, true, length, option_map, take};
+ghost use Rattle.std.specs.Prelude.{◌≡◌, ◌≤◌, ◌<◌, ◌++◌, [], ℕ, Bool, List, false, true, is_err, length, option_map, take};
+ghost use Rattle.std.specs.Io.{ReadsAtMost};
+ghost use Rattle.std.specs.Io.KnownBytes.{ReadConsumes};
 ghost use Rattle.cn_report.specs.Reading.Clipped.{after_byte, clipped, clipped_remaining, is_over};
 
 use std::io::{Read, Result};
+
+/// A reader that tells whether its last read failed.
+pub(crate) trait ReadTelling: Read {
+    ghost failed: { Self → Bool };
+
+    /// Whether its last read failed.
+    fn has_failed(&self) -> bool
+        ensures { result ≡ failed self.now };
+}
 
 /// Where a text stands that is read.
 #[derive(Clone, Copy, Debug, PartialEq, Eq)]
@@ -57,6 +68,7 @@ impl Line {
 pub(crate) struct Clipped<R: Read + Drop> {
     reader: R,
     line: Line,
+    failed: bool,
 }
 
 impl<R: Read + Drop> Clipped<R> {
@@ -67,6 +79,7 @@ impl<R: Read + Drop> Clipped<R> {
         Clipped {
             reader,
             line: Line::Header(0),
+            failed: false,
         }
     }
 }
@@ -74,13 +87,29 @@ impl<R: Read + Drop> Clipped<R> {
 impl<R: Read + Drop> Read for Clipped<R> {
     ghost remaining = { clipped_remaining R.remaining };
 
-    fn read(&mut self, bytes: &mut [u8]) -> Result<usize> {
+    fn read(&mut self, bytes: &mut [u8]) -> Result<usize>
+        ensures bound { ReadsAtMost result bytes.new }
+        ensures bytes { ReadConsumes (clipped_remaining R.remaining self.old)
+            (clipped_remaining R.remaining self.new) result bytes.new }
+        ensures failed { self.new.failed ≡ is_err result }
+    {
+        self.failed = false;
         if self.line.is_over() {
             return Ok(0);
         }
+        self.failed = true;
         let read = self.reader.read(bytes)?;
+        self.failed = false;
         let (line, count) = self.line.after_all(&bytes[..read]);
         self.line = line;
         Ok(count)
+    }
+}
+
+impl<R: Read + Drop> ReadTelling for Clipped<R> {
+    ghost failed = { λ reader. reader.failed };
+
+    fn has_failed(&self) -> bool {
+        self.failed
     }
 }

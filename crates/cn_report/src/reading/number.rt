@@ -19,7 +19,7 @@ const LEAD_WEIGHT: u128 = 10_000_000_000_000_000_000;
 /// No byte ends the loop, so that the compiler can test many bytes at once. A digit is worth its byte modulo 16. Any
 /// other byte counts below 16 too, so the sum fits whatever the bytes are.
 fn value_of_few(digits: &[u8]) -> Option<u64>
-    requires { length digits.now ≤ 19 }
+    requires { length digits.now ≤ FEW_DIGITS }
     ensures { result ≡ (if list_all is_ascii_digit digits.now then Some (digits_value 10 digits.now) else None) }
 {
     let mut value = 0u64;
@@ -39,8 +39,8 @@ fn value_of_few(digits: &[u8]) -> Option<u64>
 /// Most numbers that are drawn evenly have the one length or the other. One digit less is worth what it is with a zero
 /// before it, so of either the last `FEW_DIGITS` are summed, and the compiler needs no loop for a length that it knows.
 fn value_of_many(field: &[u8]) -> Option<u64>
-    requires least { 19 ≤ length field.now }
-    requires most { length field.now ≤ 20 }
+    requires least { FEW_DIGITS ≤ length field.now }
+    requires most { length field.now ≤ MOST_DIGITS }
     ensures { result ≡ (if list_all is_ascii_digit field.now then value_in field.now else None) }
 {
     let first = field[0];

@@ -1,14 +1,14 @@
 //! The records of a text, one after the other.
 
-ghost use Rattle.std.specs.Prelude.{◌≡◌, ◌↔◌, ◌<◌, ◌∷◌, ◌++◌, [], ℕ, List, IfSome, IfOk, OnOk, length, slice_index_or};
+ghost use Rattle.std.specs.Prelude.{◌≡◌, ◌<◌, ◌∷◌, ◌++◌, [], ℕ, List, IfErr, IfSome, IfOk, OnOk, length, slice_index_or};
 ghost use Rattle.std.specs.Bool.{MatchBool};
 ghost use Rattle.std.specs.Cmp.Lexicographic.{pointwise};
 ghost use Rattle.std.specs.Str.{bytes_eq};
-ghost use Rattle.csv.specs.Reading.{error_kind};
 ghost use Rattle.csv.specs.Records.{fields_of};
-ghost use Rattle.cn_report.specs.Reading.Records.{HasRead, IsOfReader, IsPlain, Record, records_of};
+ghost use Rattle.cn_report.specs.Reading.Records.{HasRead, HasStopped, IsPlain, Record, records_of};
 
-use csv::{ByteRecord, Error, ErrorKind, Reader, ReaderBuilder};
+use crate::reading::clipped::ReadTelling;
+use csv::{ByteRecord, Reader, ReaderBuilder};
 use std::alloc::{AllocError, Global};
 use std::io::Read;
 
@@ -19,18 +19,6 @@ pub(crate) enum RecordFault {
     Read,
     /// A growth was refused.
     Memory,
-}
-
-/// Why no record came, of an error of `csv`.
-fn fault_of(error: Error) -> RecordFault
-    requires { IsOfReader (error_kind error) }
-    ensures { (result ≡ RecordFault.Memory) ↔ (error_kind error ≡ ErrorKind.OutOfMemory) }
-{
-    match error.into_kind() {
-        ErrorKind::Io(_) => RecordFault::Read,
-        ErrorKind::OutOfMemory => RecordFault::Memory,
-        _ => unreachable!(),
-    }
 }
 
 /// A reader of records of any length, with no header set aside. Its header is set, and empty: else it would keep the
@@ -57,7 +45,10 @@ pub(crate) fn open_records<R: Read + Drop>(
 }
 
 /// Reads the next record into `fields`, and returns whether there was one.
-pub(crate) fn next_record<R: Read>(
+///
+/// # Errors
+/// `Read` if the last read of the reader failed, else `Memory`. No record comes after it.
+pub(crate) fn next_record<R: ReadTelling>(
     records: &mut Reader<R>,
     fields: &mut ByteRecord,
 ) -> Result<bool, RecordFault>
@@ -67,10 +58,12 @@ pub(crate) fn next_record<R: Read>(
         → HasRead R.remaining records.old text before
         → MatchBool found (HasRead R.remaining records.new text (before
         ++ fields_of fields.new ∷ [])) (records_of text ≡ before)) }
+    ensures stops { IfErr result (HasStopped R.failed records.new) }
 {
     match records.read_byte_record(fields) {
         Ok(found) => Ok(found),
-        Err(error) => Err(fault_of(error)),
+        Err(_) if records.get_ref().has_failed() => Err(RecordFault::Read),
+        Err(_) => Err(RecordFault::Memory),
     }
 }
 

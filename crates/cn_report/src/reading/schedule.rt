@@ -3,10 +3,10 @@
 ghost use Rattle.std.specs.Prelude.{◌≡◌, ◌≤◌, ◌⊎◌, ◌∷◌, ◌++◌, [], ℕ, List, IfErr, IfOk, IfSome, OnOk, MatchOption, MatchResult, None, Ok, Some};
 ghost use Rattle.cn_spec.specs.declared.limits.TheConstants.{MOST_RECORDS};
 ghost use Rattle.cn_report.specs.Reading.Command.{command_in};
-ghost use Rattle.cn_report.specs.Reading.Records.{HasRead, IsPlain, Record, records_of};
-ghost use Rattle.cn_report.specs.Reading.Schedule.{IsSchedule, IsScheduleFault, command_cause, header_cause};
+ghost use Rattle.cn_report.specs.Reading.Records.{HasRead, IsPlain, IsTold, Record, records_of};
+ghost use Rattle.cn_report.specs.Reading.Schedule.{IsSchedule, IsScheduleFault, cause_of_fault, command_cause, header_cause};
 
-use crate::reading::clipped::Clipped;
+use crate::reading::clipped::{Clipped, ReadTelling};
 use crate::reading::command::command_of;
 use crate::reading::records::{is_header, next_record, open_records};
 use crate::reading::schedule_fault::{ScheduleCause, ScheduleFault};
@@ -17,7 +17,7 @@ use std::alloc::Global;
 use std::io::Read;
 
 /// Takes the header.
-fn take_header<R: Read>(
+fn take_header<R: ReadTelling>(
     records: &mut Reader<R>,
     fields: &mut ByteRecord,
 ) -> Result<(), ScheduleCause>
@@ -28,6 +28,7 @@ fn take_header<R: Read>(
         × (header_cause fields ≡ None)) }
     ensures err { IfErr result (λ cause. (text : List ℕ) → HasRead R.remaining records.old text []
         → IsScheduleFault (records_of text) (record { at = 0; cause = cause })) }
+    ensures told { IfErr result (IsTold R.failed cause_of_fault records.new) }
 {
     if next_record(records, fields)? && is_header(fields, b"op", b"client", b"wire") {
         Ok(())
@@ -37,7 +38,7 @@ fn take_header<R: Read>(
 }
 
 /// Takes the command of record `at`, if there is one.
-fn take_command<R: Read>(
+fn take_command<R: ReadTelling>(
     records: &mut Reader<R>,
     fields: &mut ByteRecord,
     at: u64,
@@ -54,6 +55,7 @@ fn take_command<R: Read>(
         → ((fields : Record) × HasRead R.remaining records.new text (before ++ fields ∷ [])
         × (command_cause at (command_in fields) ≡ Some cause))
         ⊎ (cause ≡ ScheduleCause.Read) ⊎ (cause ≡ ScheduleCause.Memory)) }
+    ensures told { IfErr result (IsTold R.failed cause_of_fault records.new) }
     ensures few { IfOk result (λ found. IfSome found (λ _. at ≤ MOST_RECORDS)) }
 {
     if !next_record(records, fields)? {
@@ -67,15 +69,16 @@ fn take_command<R: Read>(
 }
 
 /// Takes the header and the commands.
-fn take_commands<R: Read>(
+fn take_commands<R: ReadTelling>(
     alloc: Global,
     records: &mut Reader<R>,
     fields: &mut ByteRecord,
 ) -> Result<Vec<Command>, ScheduleFault>
     requires { IsPlain records.old }
-    ensures { (text : List ℕ) → HasRead R.remaining records.old text []
+    ensures answer { (text : List ℕ) → HasRead R.remaining records.old text []
         → MatchResult result (λ commands.
         IsSchedule (records_of text) commands.items) (IsScheduleFault (records_of text)) }
+    ensures told { IfErr result (λ fault. IsTold R.failed cause_of_fault records.new fault.cause) }
 {
     let mut commands = Vec::new(alloc);
     if let Err(cause) = take_header(records, fields) {

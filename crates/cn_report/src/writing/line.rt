@@ -1,6 +1,7 @@
 //! The parts of lines, and lines that are made from their ends in a buffer, so that each is put at once.
 
 ghost use Rattle.std.specs.Prelude.{◌≡◌, ◌+◌, ◌<◌, ◌≤◌, ◌++◌, codes, decimal, drop, length};
+ghost use Rattle.cn_spec.specs.declared.limits.TheConstants.{MOST_DIGITS};
 ghost use Rattle.cn_report.specs.Grants.ListText.{grant_line};
 ghost use Rattle.cn_report.specs.Writing.Pieces.{Puts};
 ghost use Rattle.cn_report.specs.Writing.Text.{heading};
@@ -10,15 +11,21 @@ use cn_wiring::Counting;
 use itoa::{Buffer, Integer, write_digits};
 use std::io::Write;
 
-/// Three numbers of 20 digits, and a byte after each; or two, and words of 23 bytes.
+/// Three numbers of 20 digits, and a byte after each; or two, the most words, and a line feed.
 const ROOM: usize = 64;
+
+/// Where the line feed stands.
+const LAST: usize = ROOM - 1;
+
+/// How many bytes the words have at most of a line that is made in a buffer.
+const MOST_WORDS: usize = 23;
 
 /// Writes a word and a number so that they end at `end`, and returns where they start.
 #[inline(always)]
 fn write_part(word: &str, number: u64, line: &mut [u8], end: usize) -> usize
-    requires room { length word.now + 20 ≤ end }
+    requires room { length word.now + MOST_DIGITS ≤ end }
     requires within { end < length line.old }
-    ensures start { end ≤ result + length word.now + 20 }
+    ensures start { end ≤ result + length word.now + MOST_DIGITS }
     ensures within { result ≤ end }
     ensures written { drop result line.new ≡ word.now ++ (decimal number ++ drop end line.old) }
     ensures same { length line.new ≡ length line.old }
@@ -34,13 +41,13 @@ fn write_part(word: &str, number: u64, line: &mut [u8], end: usize) -> usize
 #[inline(always)]
 fn make_line(line: &mut [u8], first: &str, number: u64, second: &str, other: u64) -> usize
     requires room { length line.old ≡ ROOM }
-    requires feed { drop 63 line.old ≡ codes "\n" }
-    requires words { length first.now + length second.now ≤ 23 }
+    requires feed { drop LAST line.old ≡ codes "\n" }
+    requires words { length first.now + length second.now ≤ MOST_WORDS }
     ensures written { drop result line.new
         ≡ first.now ++ (decimal number ++ (second.now ++ (decimal other ++ codes "\n"))) }
     ensures within { result ≤ ROOM }
 {
-    let middle = write_part(second, other, line, ROOM - 1);
+    let middle = write_part(second, other, line, LAST);
     write_part(first, number, line, middle)
 }
 
@@ -49,11 +56,11 @@ fn make_line(line: &mut [u8], first: &str, number: u64, second: &str, other: u64
 #[tactic(auto, unfolding(crate::specs::Grants::ListText::grant_line))]
 fn make_grant(line: &mut [u8], epoch: u64, client: u64, name: u64) -> usize
     requires room { length line.old ≡ ROOM }
-    requires feed { drop 63 line.old ≡ codes "\n" }
+    requires feed { drop LAST line.old ≡ codes "\n" }
     ensures written { drop result line.new ≡ grant_line epoch client name }
     ensures within { result ≤ ROOM }
 {
-    let third = write_part(",", name, line, ROOM - 1);
+    let third = write_part(",", name, line, LAST);
     let second = write_part(",", client, line, third);
     write_part("", epoch, line, second)
 }
@@ -68,7 +75,7 @@ pub(crate) fn send_line<W: Write>(
     second: &str,
     other: u64,
 )
-    requires { length first.now + length second.now ≤ 23 }
+    requires { length first.now + length second.now ≤ MOST_WORDS }
     ensures { Puts W.contents writer.old writer.new pieces.old pieces.new
         (first.now ++ (decimal number ++ (second.now ++ (decimal other ++ codes "\n")))) }
 {
@@ -101,7 +108,7 @@ pub(crate) fn send_number<W: Write, I: Integer>(
     word: &str,
     number: I,
 )
-    requires { length word.now ≤ 23 }
+    requires { length word.now ≤ MOST_WORDS }
     ensures { Puts W.contents writer.old writer.new pieces.old pieces.new (word.now ++ I.text number) }
 {
     pieces.put(writer, word.as_bytes());
@@ -116,7 +123,7 @@ pub(crate) fn send_numbered<W: Write, I: Integer>(
     number: I,
     end: &str,
 )
-    requires { length word.now + length end.now ≤ 64 }
+    requires { length word.now + length end.now ≤ ROOM }
     ensures { Puts W.contents writer.old writer.new pieces.old pieces.new
         (word.now ++ (I.text number ++ end.now)) }
 {

@@ -25,12 +25,13 @@ pub struct Pieces {
 impl Model for Pieces {
     ghost use Rattle.std.specs.Prelude.{◌≤◌, length, vec_capacity};
     ghost use Rattle.cn_report.specs.Writing.Pieces.{Pending};
+    ghost use Rattle.cn_report.specs.declared.writing.pieces.TheConstants.{PIECE};
 
     ghost Value = { Pending };
 
     ghost view = { λ p. record { held = p.held.items; written = p.written; failed = p.failed } };
 
-    ghost invariant = { λ p. (length p.held.items ≤ 65536) × (65536 ≤ vec_capacity p.held) };
+    ghost invariant = { λ p. (length p.held.items ≤ PIECE) × (PIECE ≤ vec_capacity p.held) };
 }
 
 impl Pieces {

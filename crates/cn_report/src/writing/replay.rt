@@ -6,7 +6,7 @@ ghost use Rattle.cn_spec.specs.declared.limits.TheConstants.{MOST_ENDS};
 ghost use Rattle.cn_ledger.specs.Answers.{HadMemory};
 ghost use Rattle.cn_ledger.specs.declared.answer.Answer.{Answer};
 ghost use Rattle.cn_report.specs.Writing.Outcome.{exit_lines};
-ghost use Rattle.cn_report.specs.Writing.Pieces.{Puts, nothing_put};
+ghost use Rattle.cn_report.specs.Writing.Pieces.{Puts, RestsIfFailed, nothing_put};
 ghost use Rattle.cn_report.specs.Writing.Replay.{AreAnswers, Fits, IsKept, IsWholeKept, IsWholeKeptRecord, end_line, kept_counts, kept_line, kept_lines, kept_record_lines, not_quiet_line, replay_text, turn_line};
 ghost use Rattle.cn_report.specs.Writing.Written.{First, HasWritten, written_by};
 
@@ -72,7 +72,7 @@ fn send_not_quiet<W: Write>(pieces: &mut Pieces, writer: &mut W, inside: u64)
     send_numbered(pieces, writer, "refused turn NotQuiet ", inside, "\n");
 }
 
-/// Sends the lines of a command and its answer.
+/// Sends the lines of a command and its answer, unless a write failed.
 #[tactic(auto, unfolding(crate::specs::Writing::Replay::answer_line))]
 fn send_answer<W: Write>(
     pieces: &mut Pieces,
@@ -85,8 +85,12 @@ fn send_answer<W: Write>(
     requires fits { Fits command answer.now }
     requires memory { HadMemory answer.now }
     requires whole { IsWholeKept width answer.now }
-    ensures { Puts W.contents writer.old writer.new pieces.old pieces.new (kept_line width command answer.now) }
+    ensures puts { Puts W.contents writer.old writer.new pieces.old pieces.new (kept_line width command answer.now) }
+    ensures rests { RestsIfFailed writer.old writer.new pieces.old pieces.new }
 {
+    if pieces.has_failed() {
+        return;
+    }
     match (command, answer) {
         (Command::Enter { client, entry }, Answer::Replied(reply)) => {
             send_enter(pieces, writer, client, entry, *reply);
@@ -102,7 +106,7 @@ fn send_answer<W: Write>(
     }
 }
 
-/// Sends the lines of all commands and their answers, until a write fails.
+/// Sends the lines of all commands and their answers.
 fn send_answers<W: Write>(
     pieces: &mut Pieces,
     writer: &mut W,
@@ -118,9 +122,6 @@ fn send_answers<W: Write>(
         (kept_lines width commands.now answers.now) }
 {
     for (position, answer) in answers.iter().enumerate() {
-        if pieces.has_failed() {
-            return;
-        }
         send_answer(pieces, writer, width, commands[position], answer);
     }
 }

@@ -9,7 +9,7 @@ ghost use Rattle.cn_ledger.specs.declared.record.EpochRecord.{EpochRecord};
 ghost use Rattle.cn_report.specs.Reading.Batch.{clients_of_epochs};
 ghost use Rattle.cn_report.specs.Writing.EpochRecords.{AreRecordsOf};
 ghost use Rattle.cn_report.specs.Writing.Outcome.{exit_lines, name_lines};
-ghost use Rattle.cn_report.specs.Writing.Pieces.{Puts, nothing_put};
+ghost use Rattle.cn_report.specs.Writing.Pieces.{Puts, RestsIfFailed, nothing_put};
 ghost use Rattle.cn_report.specs.Writing.Report.{epoch_line, epoch_lines, report_end, report_text};
 ghost use Rattle.cn_report.specs.Writing.Written.{First, HasWritten, written_by};
 
@@ -35,7 +35,8 @@ pub(crate) fn send_epoch_line<W: Write>(
     send_line(pieces, writer, "epoch ", number, " clients ", clients);
 }
 
-/// Sends what an epoch gave out after `before` clients: its line, its exits and its names.
+/// Sends what an epoch gave out after `before` clients: its line, its exits and its names. It sends nothing if
+/// a write failed.
 fn send_epoch<W: Write>(
     pieces: &mut Pieces,
     writer: &mut W,
@@ -46,10 +47,14 @@ fn send_epoch<W: Write>(
 )
     requires width { width ≤ MOST_ENDS }
     requires few { before + length holders.now ≤ MOST_NAMED }
-    ensures { let clients = length holders.now in
+    ensures puts { let clients = length holders.now in
         Puts W.contents writer.old writer.new pieces.old pieces.new (epoch_line number clients
         ++ (exit_lines width (shares_after before clients width) ++ name_lines clients holders.now)) }
+    ensures rests { RestsIfFailed writer.old writer.new pieces.old pieces.new }
 {
+    if pieces.has_failed() {
+        return;
+    }
     let clients = holders.len() as u64;
     send_epoch_line(pieces, writer, number, clients);
     send_counts(pieces, writer, width, before, clients);
@@ -63,7 +68,7 @@ fn carried(carries: bool, clients: u64) -> u64
     if carries { clients } else { 0 }
 }
 
-/// Sends what each epoch gave out, until a write fails. The holders of each follow those of the one before.
+/// Sends what each epoch gave out. The holders of each follow those of the one before.
 fn send_epochs<W: Write>(
     pieces: &mut Pieces,
     writer: &mut W,
@@ -82,9 +87,6 @@ fn send_epochs<W: Write>(
 {
     let (mut before, mut left) = (0, holders);
     for epoch in epochs {
-        if pieces.has_failed() {
-            return;
-        }
         let (own, others) = left.split_at(epoch.clients.len());
         send_epoch(pieces, writer, width, before, epoch.number, own);
         before = carried(carries, before + own.len() as u64);

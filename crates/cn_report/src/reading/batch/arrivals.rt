@@ -2,24 +2,24 @@
 
 ghost use Rattle.std.specs.Prelude.{◌≡◌, ◌<◌, ◌⊎◌, ◌∷◌, ◌++◌, [], ℕ, Err, IfErr, IfOk, IfSome, List, MatchOption, MatchResult, Ok, OnOk, Some};
 ghost use Rattle.cn_report.specs.Reading.Arrival.{arrival_in};
-ghost use Rattle.cn_report.specs.Reading.Batch.{IsBatchFault, IsOfReading};
+ghost use Rattle.cn_report.specs.Reading.Batch.{IsBatchFault, IsOfReading, batch_cause_of_fault};
 ghost use Rattle.cn_report.specs.Reading.Bounds.{AreBounds};
 ghost use Rattle.cn_report.specs.declared.reading.bounds.Bounds.{Bounds};
 ghost use Rattle.cn_report.specs.Reading.Heading.{heading_of};
-ghost use Rattle.cn_report.specs.Reading.Records.{HasRead, IsPlain, Record, records_of};
+ghost use Rattle.cn_report.specs.Reading.Records.{HasRead, IsPlain, IsTold, Record, records_of};
 ghost use Rattle.cn_report.specs.Reading.Stretch.{HasHeader, HasSameHeader, IsFull, IsOpen, ReadsStretch};
 
 use crate::reading::batch::arrival::{Arrival, Heading, arrival_of, heading_of};
 use crate::reading::batch_fault::{BatchCause, BatchFault};
 use crate::reading::bounds::Bounds;
+use crate::reading::clipped::ReadTelling;
 use crate::reading::records::{next_record, open_records};
 use csv::{ByteRecord, Reader};
 use std::alloc::Global;
-use std::io::Read;
 
 /// A batch that is read, record by record.
 #[derive(Drop)]
-pub(crate) struct ArrivalReader<R: Read + Drop> {
+pub(crate) struct ArrivalReader<R: ReadTelling + Drop> {
     records: Box<Reader<R>>,
     fields: ByteRecord,
     heading: Heading,
@@ -28,7 +28,7 @@ pub(crate) struct ArrivalReader<R: Read + Drop> {
 }
 
 /// Reads the header.
-fn read_header<R: Read>(
+fn read_header<R: ReadTelling>(
     records: &mut Reader<R>,
     fields: &mut ByteRecord,
 ) -> Result<Heading, BatchCause>
@@ -40,6 +40,7 @@ fn read_header<R: Read>(
     ensures err { IfErr result (λ cause. (bounds : Bounds) (text : List ℕ)
         → HasRead R.remaining records.old text []
         → IsBatchFault bounds (records_of text) (record { at = 0; cause = cause })) }
+    ensures told { IfErr result (IsTold R.failed batch_cause_of_fault records.new) }
 {
     if !next_record(records, fields)? {
         return Err(BatchCause::Header);
@@ -50,7 +51,7 @@ fn read_header<R: Read>(
     }
 }
 
-impl<R: Read + Drop> ArrivalReader<R> {
+impl<R: ReadTelling + Drop> ArrivalReader<R> {
     /// Opens a batch that keeps within these bounds, and reads its header.
     ///
     /// # Errors
@@ -96,6 +97,7 @@ impl<R: Read + Drop> ArrivalReader<R> {
             → HasRead R.remaining self.old.records.value text before
             → ((fields : Record) × HasRead R.remaining self.new.records.value text (before ++ fields ∷ [])
             × (arrival_in self.old.heading self.old.bounds fields ≡ Err cause)) ⊎ IsOfReading cause) }
+        ensures told { IfErr result (IsTold R.failed batch_cause_of_fault self.new.records.value) }
     {
         if !next_record(&mut self.records, &mut self.fields)? {
             return Ok(None);
@@ -115,6 +117,7 @@ impl<R: Read + Drop> ArrivalReader<R> {
     ) -> Result<bool, BatchCause>
         requires { IsOpen self.old }
         ensures reads { ReadsStretch R.remaining self.old self.new arrivals.new.items result }
+        ensures told { IfErr result (IsTold R.failed batch_cause_of_fault self.new.records.value) }
         ensures most { IsFull most arrivals.new.items result }
     {
         arrivals.clear();

@@ -1,6 +1,6 @@
 //! The epochs of a batch, as its records come.
 
-ghost use Rattle.std.specs.Prelude.{◌≡◌, ℕ, ◌≤◌, ◌+◌, ◌⊎◌, ◌∷◌, ◌++◌, [], List, None, Some, MatchResult, OnErr, OnOk, IfErr, IfOk, vec_capacity};
+ghost use Rattle.std.specs.Prelude.{◌≡◌, ◌≢◌, ℕ, ◌≤◌, ◌+◌, ◌⊎◌, ◌∷◌, ◌++◌, [], List, None, Some, MatchResult, OnErr, OnOk, IfErr, IfOk, vec_capacity};
 ghost use Rattle.cn_report.specs.declared.reading.batch.arrival.Arrival.{Arrival};
 ghost use Rattle.cn_report.specs.declared.reading.batch.arrival.Heading.{Heading};
 ghost use Rattle.cn_report.specs.Reading.Arrival.{arrival_cause};
@@ -107,6 +107,7 @@ impl Gathering {
         ensures stays { OnErr result (self.new.next ≡ self.old.next) }
         ensures err { IfErr result (λ cause.
             (adding_cause bounds self.old client ≡ Some cause) ⊎ (cause ≡ BatchCause.Memory)) }
+        ensures own { IfErr result (λ cause. cause ≢ BatchCause.Read) }
     {
         match self.standing.insert(client.id) {
             Ok(true) => {}
@@ -137,6 +138,7 @@ impl Gathering {
         ensures stays { OnErr result (self.new.next ≡ self.old.next) }
         ensures err { IfErr result (λ cause. (before : List Arrival) → IsGathered self.old before
             → (arrival_cause bounds before arrival ≡ Some cause) ⊎ (cause ≡ BatchCause.Memory)) }
+        ensures own { IfErr result (λ cause. cause ≢ BatchCause.Read) }
     {
         if arrival.epoch < self.latest.number {
             return Err(BatchCause::EpochBackwards);

@@ -1,8 +1,8 @@
-use Rattle.cn_report.proofs.Common.{◌∙◌, arith, get_or, map, sym, get_or-map, length-map}
+use Rattle.cn_report.proofs.Common.{arith, get_or, map, sym, get_or-map, length-map}
 use Rattle.cn_report.specs.declared.grants.epochs.NamedEpoch.{NamedEpoch}
 use Rattle.cn_report.specs.Grants.Printed.{with_shares}
 use Rattle.cn_report.specs.Grants.TightText.{tight_line}
-use Rattle.cn_report.proofs.WritingLemmas.Putting.{put-cut, put-last, put-next, put-none}
+use Rattle.cn_report.proofs.WritingLemmas.Putting.{put-last, put-next, put-none}
 use Rattle.cn_report.proofs.grants.tight.send_named_epochs.Goals as goal
 
 pub loop-epoch-init : goal.loop-epoch-init
@@ -16,12 +16,7 @@ loop-epoch-preserved g c =
     let part = with_shares c.args.width in
     let many = length-map epochs part in
     put-next tight_line (map part epochs) i (part none) (part (get_or epochs i none)) (omega (arith, many, c.loop-epoch-test.true))
-    (sym (get_or-map part epochs i none (part none) c.loop-epoch-test.true)) c.loop-epoch.invariant c.send_named.ensures
-
-pub returns-then-has_failed : goal.returns-then-has_failed
-returns-then-has_failed g c =
-    put-cut tight_line (map (with_shares c.args.width) c.args.epochs.now) c.loop-epoch.epoch-index
-    (sym c.has_failed.ensures ∙ c.if-has_failed.true) c.loop-epoch.invariant
+    (sym (get_or-map part epochs i none (part none) c.loop-epoch-test.true)) c.loop-epoch.invariant c.send_named.ensures.puts
 
 pub returns : goal.returns
 returns g c =

@@ -1,6 +1,7 @@
 use Rattle.cn_report.proofs.Common.{◌≡◌, refl, true, Ok}
 use Rattle.std.proofs.lemmas.Result.{IfOk-weaker, err_from_is_err_and}
 use Rattle.cn_report.proofs.ReadingLemmas.Ahead.{after-header, at-an-end, at-end, goes-on, next-ahead, next-fault, same-header, stretch-fault}
+use Rattle.cn_report.proofs.ReadingLemmas.Told.{read-stops}
 use Rattle.cn_report.proofs.reading.batch.read_epochs.Goals as goal
 
 pub loop-end-init : goal.loop-end-init
@@ -8,6 +9,7 @@ loop-end-init g c =
     let source = c.args.source.now in
     let read = c.read_stretch-end.ensures in record {
       plain = read.reads.plain;
+      told = read.told;
       same = read.reads.same;
       full = read.most;
       keeps = c.requires.keeps;
@@ -27,6 +29,7 @@ loop-end-preserved g c =
     let gathers = rw (c.in_ok-gathered.was, c.deref.ensures.value, was.same.bounds) at both.ensures.gathers in
     record {
       plain = both.ensures.reads.plain;
+      told = both.ensures.told;
       same = same-header _ _ _ was.same both.ensures.reads.same;
       full = rw c.swap.ensures.x_after both.ensures.full;
       keeps = gathers.keeps;
@@ -91,3 +94,17 @@ returns-in-Err-clause-answer g c = λ text header.
     rw c.next.ensures
     (next-fault g.I.Read.remaining source.heading source.bounds text now.source.records.value now.gathering c.gather.new.self
     now.stretch.items now.end (was.ahead text header) gathers c.in-Err.cause c.in-Err.is)
+
+pub returns-in_err-gathered-clause-told : goal.returns-in_err-gathered-clause-told
+returns-in_err-gathered-clause-told g c =
+    let reported = err_from_is_err_and c.from_residual.result c.from_residual.ensures.1 in
+    let own = rw c.in_err-gathered.was at c.gather_and_read-gathered.ensures.gathers.own in
+    rw (reported.1, reported.2) (λ is. absurd (own is))
+
+pub returns-in_err-gather-clause-told : goal.returns-in_err-gather-clause-told
+returns-in_err-gather-clause-told g c =
+    let reported = err_from_is_err_and c.from_residual-in_err-gather.result c.from_residual-in_err-gather.ensures.1 in
+    rw (reported.1, reported.2) (λ is. absurd (c.in_err-gather.ensures.own is))
+
+pub returns-in-Err-clause-told : goal.returns-in-Err-clause-told
+returns-in-Err-clause-told g c = read-stops c.in-Err.cause (rw c.in-Err.is at c.loop-end.invariant.told)

@@ -1,4 +1,6 @@
-use Rattle.cn_report.proofs.Common.{◌+◌, ◌-◌, ℕ, List, OnOk, IsPlain}
+use Rattle.cn_report.proofs.Common.{◌+◌, ◌-◌, ℕ, List, IfErr, OnOk, IsPlain}
+use Rattle.cn_report.specs.Reading.Batch.{batch_cause_of_fault}
+use Rattle.cn_report.specs.Reading.Records.{IsTold}
 use Rattle.cn_report.specs.Reading.Gathered.{StaysServable}
 use Rattle.cn_report.specs.Reading.Stretch.{HasHeader, HasSameHeader, IsFull}
 use Rattle.cn_report.specs.declared.reading.batch.readers.TheConstants.{STRETCH}
@@ -8,6 +10,7 @@ use Rattle.cn_report.proofs.reading.batch.read_epochs.Given as goal
 abbrev pub invariant-loop-end : goal.invariant-loop-end
 invariant-loop-end g l = record {
   plain : OnOk l.end (IsPlain l.source.records.value);
+  told : IfErr l.end (IsTold g.I.ReadTelling.failed batch_cause_of_fault l.source.records.value);
   same : HasSameHeader l.fn.source l.source;
   full : IsFull STRETCH l.stretch.items l.end;
   keeps : StaysServable l.fn.source.bounds l.gathering;

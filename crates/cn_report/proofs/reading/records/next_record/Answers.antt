@@ -1,6 +1,6 @@
 use Rattle.cn_report.proofs.Common.{◌∙◌, inl}
 use Rattle.csv.specs.Records.{fields_of}
-use Rattle.cn_report.proofs.ReadingLemmas.RecordLists.{plain-fails, read-either}
+use Rattle.cn_report.proofs.ReadingLemmas.RecordLists.{read-either}
 use Rattle.cn_report.proofs.reading.records.next_record.Goals as goal
 
 pub returns-in-Ok-clause-plain : goal.returns-in-Ok-clause-plain
@@ -10,6 +10,7 @@ returns-in-Ok-clause-plain g c =
       ready = inl (c.in-Ok.ensures.ready c.requires.untrimmed);
       untrimmed = read.3 ∙ c.requires.untrimmed;
       flexible = c.in-Ok.ensures.flexible ∙ c.requires.flexible;
+      going = c.in-Ok.ensures.goes ∙ c.requires.going;
     }
 
 pub returns-in-Ok-clause-reads : goal.returns-in-Ok-clause-reads
@@ -17,7 +18,3 @@ returns-in-Ok-clause-reads g c = λ text before read.
     read-either g.R.Read.remaining c.args.records.now c.read_byte_record.new.self text before (fields_of c.read_byte_record.new.row)
     c.in-Ok.found read
     (c.in-Ok.ensures.reads c.requires.untrimmed c.requires.ready)
-
-pub fault_of-requires : goal.fault_of-requires
-fault_of-requires g c = plain-fails g.R.Read.remaining c.args.records.now c.read_byte_record.new.self _ c.requires.flexible
-    (c.in-Err.ensures.why c.requires.ready)

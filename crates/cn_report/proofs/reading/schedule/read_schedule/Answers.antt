@@ -13,6 +13,6 @@ returns g c =
     let remaining = clipped_remaining g.R.Read.remaining in
     let read = known-map (remaining c.new.result) (λ text. HasRead remaining c.in_ok-records.records.value text [])
     (λ text. answers (records_of text))
-    c.in_ok-records.ensures.opened (rw c.deref_mut.ensures.value at c.take_commands.ensures) in
+    c.in_ok-records.ensures.opened (rw c.deref_mut.ensures.value at c.take_commands.ensures.answer) in
     clipped-known (g.R.Read.remaining c.args.reader) answers (schedule-moves (λ v. v.items) c.take_commands.result)
     (rw c.new.ensures at read)

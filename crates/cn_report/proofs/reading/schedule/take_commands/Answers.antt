@@ -1,8 +1,9 @@
 use Rattle.cn_report.proofs.Common.{◌≡◌, ◌∷◌, ◌++◌, [], refl, arith, length-append, inl, inr, rules, true, records_of}
 use Rattle.std.specs.Result.{is_ok}
 use Rattle.cn_report.specs.declared.reading.schedule_fault.ScheduleCause.TheVariants.{Memory}
-use Rattle.cn_report.specs.Reading.Schedule.{IsOfReading, header_cause, record_cause}
+use Rattle.cn_report.specs.Reading.Schedule.{IsOfReading, cause_of_fault, header_cause, record_cause}
 use Rattle.cn_report.proofs.ReadingLemmas.FirstFaults.{stop_at, stop-before}
+use Rattle.cn_report.proofs.ReadingLemmas.Told.{told-other}
 use Rattle.cn_report.proofs.ReadingLemmas.ScheduleRecords.{taken_all, taken-header, taken-next}
 use Rattle.cn_report.proofs.reading.schedule.take_commands.Goals as goal
 
@@ -16,8 +17,8 @@ loop-at-init g c = record {
       (fields ∷ [], now, refl, rw c.new-commands.ensures.items (taken-header fields e));
 }
 
-pub returns-in-Err-take_command : goal.returns-in-Err-take_command
-returns-in-Err-take_command g c = λ text read.
+pub returns-in-Err-take_command-clause-answer : goal.returns-in-Err-take_command-clause-answer
+returns-in-Err-take_command-clause-answer g c = λ text read.
     let (before, now, size, t) = c.loop-at.invariant.taken text read in
     elim (c.in-Err-take_command.ensures.refused text before now) [
       | inl w ↦
@@ -28,16 +29,19 @@ returns-in-Err-take_command g c = λ text read.
           c.in-Err-take_command.cause t.clean now w)
     ]
 
-pub returns-in_default-taken : goal.returns-in_default-taken
-returns-in_default-taken g c = λ text read.
+pub returns-in_default-taken-clause-answer : goal.returns-in_default-taken-clause-answer
+returns-in_default-taken-clause-answer g c = λ text read.
     let (before, now, size, t) = c.loop-at.invariant.taken text read in
     taken_all (records_of text) before c.loop-at.commands.items t (rw c.in_default-taken.is at (c.in-Ok.ensures.found text before now))
 
-pub returns-then-is_err : goal.returns-then-is_err
-returns-then-is_err g c = λ text read.
+pub returns-then-is_err-clause-answer : goal.returns-then-is_err-clause-answer
+returns-then-is_err-clause-answer g c = λ text read.
     let (before, now, size, t) = c.loop-at.invariant.taken text read in
     rw (← size) (stop-before header_cause record_cause IsOfReading g.R.Read.remaining c.loop-at.records text before Memory t.clean now
     (inr refl))
+
+pub returns-then-is_err-clause-told : goal.returns-then-is_err-clause-told
+returns-then-is_err-clause-told g c = told-other cause_of_fault Memory c.in-Ok.ensures.plain.going (λ is. cc is)
 
 pub loop-at-preserved : goal.loop-at-preserved
 loop-at-preserved g c =

@@ -5,7 +5,7 @@ use Rattle.cn_ledger.specs.declared.command.Command.{Command}
 use Rattle.cn_ledger.specs.declared.command.Command.TheVariants.{Enter}
 use Rattle.cn_ledger.specs.Answers.{HadMemory}
 use Rattle.cn_report.specs.Writing.Replay.{Fits, IsWholeKept, kept_line}
-use Rattle.cn_report.proofs.WritingLemmas.Putting.{put-cut, put-last, put-next}
+use Rattle.cn_report.proofs.WritingLemmas.Putting.{put-last, put-next}
 use Rattle.cn_report.proofs.WritingLemmas.SameLines.{zipped_at}
 use Rattle.cn_report.proofs.writing.replay.send_answers.Goals as goal
 
@@ -45,7 +45,7 @@ loop-position-preserved g c =
     ∙ sym (get_or-zip commands answers i (Enter 0 0, answer.result) far c.loop-position-test.true) in
     put-next (λ (command, answer). kept_line c.args.width command answer) (zip commands answers) i (Enter 0 0, answer.result)
     (command, answer.result) (omega (arith, long, many, c.loop-position-test.true)) at
-    c.loop-position.invariant c.send_answer.ensures
+    c.loop-position.invariant c.send_answer.ensures.puts
 
 pub returns : goal.returns
 returns g c =
@@ -55,8 +55,3 @@ returns g c =
     let long = length-zip commands answers in
     put-last (λ (command, answer). kept_line c.args.width command answer) (zip commands answers) c.loop-position.position
     (omega (arith, long, many, c.loop-position-test.false)) c.loop-position.invariant
-
-pub returns-then-has_failed : goal.returns-then-has_failed
-returns-then-has_failed g c =
-    put-cut (λ (command, answer). kept_line c.args.width command answer) (zip c.args.commands.now c.args.answers.now)
-    c.loop-position.position (sym c.has_failed.ensures ∙ c.if-has_failed.true) c.loop-position.invariant

@@ -5,7 +5,7 @@ use Rattle.cn_ledger.specs.declared.record.EpochRecord.{EpochRecord}
 use Rattle.cn_report.specs.Writing.Outcome.{exit_lines, name_lines}
 use Rattle.cn_report.specs.Writing.EpochRecords.{AreRecordsOf}
 use Rattle.cn_report.specs.Writing.Report.{epoch_line, epoch_lines}
-use Rattle.cn_report.proofs.WritingLemmas.Putting.{put-none, put-rest, put-same, put-then}
+use Rattle.cn_report.proofs.WritingLemmas.Putting.{put-none, put-same, put-then}
 use Rattle.cn_report.proofs.WritingLemmas.RecordLines.{FirstRecord, first-record, last-record, when-le}
 use Rattle.cn_report.proofs.writing.report.send_epochs.Goals as goal
 
@@ -82,7 +82,7 @@ loop-epoch-preserved g c =
             subst (λ n. AreRecordsOf c.args.carries w n epochs f.later c.split_at.result.1.now) (sym next) after,
             sofar ++ own,
             whole ∙ ap (λ (t : List ℕ). sofar ++ t) parts ∙ sym (append_assoc sofar own (flat_map (epoch_lines w) f.later)),
-            put-then puts c.send_epoch.ensures,
+            put-then puts c.send_epoch.ensures.puts,
           );
     }
 
@@ -92,8 +92,3 @@ returns g c records are =
     let none = last-record (epoch_lines c.args.width) c.args.carries c.args.width c.loop-epoch.before c.args.epochs.now
     c.loop-epoch.epoch-index later c.loop-epoch.left.now c.loop-epoch-test.false rest in
     put-same (sym (whole ∙ ap (λ (t : List ℕ). sofar ++ t) none ∙ append-nil sofar)) puts
-
-pub returns-then-has_failed : goal.returns-then-has_failed
-returns-then-has_failed g c records are =
-    let (later, rest, sofar, whole, puts) = c.loop-epoch.invariant.put records are in
-    put-same (sym whole) (put-rest sofar (flat_map (epoch_lines c.args.width) later) (sym c.has_failed.ensures ∙ c.if-has_failed.true) puts)

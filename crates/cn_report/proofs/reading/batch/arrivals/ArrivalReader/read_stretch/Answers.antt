@@ -3,7 +3,9 @@ use Rattle.std.specs.Result.{is_ok}
 use Rattle.std.proofs.lemmas.Result.{err_from_is_err_and}
 use Rattle.cn_report.specs.declared.reading.batch_fault.BatchCause.TheVariants.{Memory}
 use Rattle.cn_report.proofs.ReadingLemmas.Ahead.{same-header, stretch-read}
+use Rattle.cn_report.specs.Reading.Batch.{batch_cause_of_fault}
 use Rattle.cn_report.proofs.ReadingLemmas.Stretches.{spelled-more}
+use Rattle.cn_report.proofs.ReadingLemmas.Told.{told-other}
 use Rattle.cn_report.proofs.reading.batch.arrivals.ArrivalReader.read_stretch.Goals as goal
 
 pub loop-taken-init : goal.loop-taken-init
@@ -70,6 +72,9 @@ returns-then-is_err-clause-reads g c =
           stretch-read g.R.Read.remaining c.loop-taken.self.records.value c.next_arrival.new.self.records.value c.args.self.now.heading
           c.args.self.now.bounds text before records c.push.new.self.items (Err Memory) (rw items spelled) now (inr (inr refl));
     }
+
+pub returns-then-is_err-clause-told : goal.returns-then-is_err-clause-told
+returns-then-is_err-clause-told g c = told-other batch_cause_of_fault Memory c.in_ok-arrival.ensures.plain.going (λ is. cc is)
 
 pub returns-clause-reads : goal.returns-clause-reads
 returns-clause-reads g c = record {

@@ -15,6 +15,7 @@ returns-in-Err c = record {
   keeps = tt;
   next = tt;
   at = sym c.in-Err.ensures.stays;
+  own = c.in-Err.ensures.own;
   answer = λ heading before records later came taken gathered spelled.
       let at = c.loop-arrival.arrival-index in
       let xs = c.args.arrivals.now in
@@ -42,6 +43,7 @@ returns c = record {
   keeps = c.loop-arrival.invariant.keeps;
   next = omega (arith, c.loop-arrival.invariant.next, c.loop-arrival-test.false);
   at = tt;
+  own = tt;
   answer = λ heading before records later came taken gathered spelled.
       all-gathered heading c.args.bounds before records came c.args.arrivals.now spelled c.loop-arrival.self c.loop-arrival.arrival-index
       c.loop-arrival-test.false
