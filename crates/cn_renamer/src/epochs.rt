@@ -88,7 +88,7 @@ fn run_in_turn<'n, G: Gate + Sync, R: Threads + Wait + Sync>(
         let own = &mut holders[at..end];
         let (next, receipt) = serve_epoch(rt, alloc, runner, epoch, crew, gate, own)?;
         runner = next;
-        receipts = receipts.and(receipt);
+        receipts = receipts.append(receipt);
         at = end;
     }
     Ok(receipts)
@@ -169,7 +169,7 @@ fn run_beside<R: Threads + Wait + Sync>(
         { run_beside(rt, alloc, network, false, second, others, back) },
     );
     let (floors, others) = (one?, other?);
-    Ok(floors.and(others))
+    Ok(floors.append(others))
 }
 
 /// Runs the epochs of a batch on a network, as the options say: who has which name, epoch after epoch, each by rising

@@ -11,11 +11,24 @@ ghost use Rattle.cn_renamer.specs.declared.output_fault.OutputFault.TheVariants.
 use crate::checking::CheckFault;
 use crate::output_fault::OutputFault;
 use crate::replaying::ReplayFault;
-use crate::runtime::RuntimeFault;
 use crate::serve_fault::ServeFault;
 use std::alloc::AllocError;
 use std::io::{self, Cursor, Write};
 use thiserror::Error;
+
+/// The runtime gave no arguments or no random words.
+#[derive(Clone, Copy, Debug, PartialEq, Eq, Error)]
+#[error("renamer: runtime")]
+pub struct RuntimeFault;
+
+impl RuntimeFault {
+    /// The status with which the program ends: 3.
+    pub fn status(&self) -> u8
+        ensures { result ≡ 3 }
+    {
+        3
+    }
+}
 
 /// The first fault that the program met. Its text is what the program prints.
 #[derive(Debug, Drop, Error)]

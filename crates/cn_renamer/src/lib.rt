@@ -8,22 +8,19 @@ pub mod laws;
 mod output_fault;
 mod performing;
 mod replaying;
-mod runtime;
 mod serve_fault;
 mod serving;
 mod showing;
-mod writing;
 
 pub use checking::{CheckFault, check};
 // The older names of these: they stand in cn_cli and cn_nets.
 pub use cn_cli::{Form, Job, OptionFault, Options, WordsFault, parse_words};
 pub use cn_nets::{Net, NetFault};
 pub use epochs::{CLIENTS_FOR_A_THREAD, workers_that_pay};
-pub use fault::{Fault, end};
+pub use fault::{Fault, RuntimeFault, end};
 pub use output_fault::OutputFault;
 pub use performing::{perform, run};
 pub use replaying::{ReplayFault, replay};
-pub use runtime::RuntimeFault;
 pub use serve_fault::ServeFault;
 pub use serving::{serve, serve_with_receipts};
 pub use showing::{ShowFault, show};

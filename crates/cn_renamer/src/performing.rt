@@ -1,7 +1,8 @@
 //! The job that the words ask for, done.
 
-ghost use Rattle.std.specs.Prelude.{Err, IfErr, List, Option, map, string_bytes, ℕ};
+ghost use Rattle.std.specs.Prelude.{◌≡◌, Err, IfErr, List, Option, map, string_bytes, ℕ};
 ghost use Rattle.cn_report.specs.Writing.Written.{HasWritten, written_by};
+ghost use Rattle.cn_renamer.specs.Outputs.{until_output};
 ghost use Rattle.cn_renamer.specs.Performing.{HasRun, IsBuiltFor, IsTextAsked, IsTextOf, MayEnd, MayEndAsked, until_fault};
 
 use crate::checking::check;
@@ -10,9 +11,9 @@ use crate::output_fault::OutputFault;
 use crate::replaying::replay;
 use crate::serving::serve_with_receipts;
 use crate::showing::show;
-use crate::writing::write_text;
 use cn_cli::{Job, WordsFault, parse_words};
 use cn_floor::OpenGate;
+use cn_report::emit;
 use std::alloc::Global;
 use std::hash::RandomState;
 use std::io::{Read, Write};
@@ -21,7 +22,7 @@ use std::sync::Wait;
 use std::thread::Threads;
 
 /// Does a job: reads what it reads, and writes its text. Random words are asked for only by a job that keeps clients,
-/// and threads only by a run of more than one worker.
+/// of which a check does without them if there are none, and threads only by a run of more than one worker.
 ///
 /// The width of a check is one that networks have ([`cn_wiring::is_width`]), as [`parse_words`] answers it.
 ///
@@ -51,9 +52,25 @@ pub fn perform<I: Read + Drop, W: Write, S: RandomSource, R: Threads + Wait + Sy
             let state = RandomState::new(source)?;
             Ok(replay(alloc, reader, writer, &net, state)?)
         }
-        Job::Check(asked) => Ok(check(alloc, reader, writer, asked.width, asked.large)?),
+        Job::Check(asked) => {
+            // It needs no random words: without them a list that was made for it may take longer.
+            let state = RandomState::new(source).ok();
+            Ok(check(alloc, reader, writer, asked.width, asked.large, state)?)
+        }
         Job::Show(net) => Ok(show(alloc, writer, &net)?),
     }
+}
+
+/// Writes a text whole.
+///
+/// # Errors
+/// `Write` if a write or the flush at the end failed: the bytes that were written are the first of the text.
+fn write_text<W: Write>(writer: &mut W, text: &[u8]) -> Result<(), OutputFault>
+    ensures { HasWritten W.contents (λ written. written
+        ≡ text.now) (written_by until_output result) writer.old writer.new }
+{
+    emit(writer, text)?;
+    Ok(())
 }
 
 /// Ends without a job: help or the version is written, and any other fault of the words is returned.

@@ -106,7 +106,7 @@ pub(crate) fn source_of(given: Given) -> Words {
 /// fault.
 type Row = (Asked, Kind, u32, Given, &'static [u8], u8, &'static [u8]);
 
-/// Only a run and a replay ask for random words; and a flush that fails is a write that fails.
+/// A run and a replay want random words, and a check does without them; and a flush that fails is a write that fails.
 const ROWS: [Row; 16] = [
     (
         Asked::Replay,

@@ -61,6 +61,7 @@ fn run_words(
     )
 }
 
+/// Does the job that the words ask for, and ends with its status.
 fn main(rt: HostRuntime) -> ExitCode {
     let _ = say_input(&rt);
     let done = run_words(&rt);

@@ -54,7 +54,7 @@ loop-epoch-preserved g c =
       runner = c.in_ok-next.ensures.next
           ∙ ap (λ (r : RunnerValue). runner_after r receipt) before.runner
           ∙ sym (after-both runner receipts receipt)
-          ∙ ap (runner_after runner) (sym c.and-receipts.ensures);
+          ∙ ap (runner_after runner) (sym c.append-receipts.ensures);
       at = omega (arith, before.at, more, c.len.ensures);
       places = same_len_mid at (at + c.len.result - at) old own
           (omega (
@@ -67,7 +67,7 @@ loop-epoch-preserved g c =
           ))
           ∙ before.places;
       walked = subst (λ (z : List BatchEpoch × List QuietValue × List ℕ). HaveWalked c.args.crew runner z.0 z.1 z.2)
-          (λ x. (front x, sym c.and-receipts.ensures x, sym written x)) both;
+          (λ x. (front x, sym c.append-receipts.ensures x, sym written x)) both;
     }
 
 pub serve_epoch-requires-clause-come : goal.serve_epoch-requires-clause-come
