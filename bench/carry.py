@@ -6,8 +6,10 @@ epochs of one client, as grants. Times do not show a ratio near 1, so the instru
 callgrind; the times are of 60 runs each.
 
 Workers: one epoch of each size of EPOCHS, nine runs, and half a million clients in epochs of this size, three runs, as
-grants, on the networks and with the hands of FORMS, by the clock and in processor time. Of all these a row has the one
-whose ratio is the greatest. The last row has the epochs of 65,536 clients on bitonic 64 by hand 1, by the clock.
+grants, on the networks and with the hands of FORMS, by the clock and in processor time. Where a ratio is above
+AGAIN_ABOVE, as one of hundreds may be by a pause of the machine, the jobs of that form run again, AGAIN times, and
+these runs count. Of all these a row has the one whose ratio is the greatest. The last row has the epochs of 65,536
+clients on bitonic 64 by hand 1, by the clock.
 """
 import collections
 import itertools
@@ -17,6 +19,8 @@ import measure
 
 EPOCHS = (1, 2, 63, 64, 65, 128, 1_000, 8_191, 8_192, 10_000, 16_383, 16_384, 16_385, 65_536, 262_144)
 WORKERS = (2, 4, 16, 64)
+# Above which ratio a form is measured again, by the clock and in processor time, and by how many runs.
+AGAIN_ABOVE, AGAIN = {"clock": 1.15, "processor": 1.4}, 15
 # A network, and how many clients a worker has in hand.
 FORMS = (("tree", 2, 1), ("tree", 64, 64), ("bitonic", 64, 1), ("bitonic", 64, 64))
 
@@ -54,6 +58,16 @@ def batches(bench):
         yield f"{'epochs' if many else 'one epoch'} of {clients}", path, 3 if many else bench.size(9, 3)
 
 
+def of_workers(bench, jobs, rounds):
+    """What each job but the first took beside that: a row of each, by each time."""
+    for runs in (rounds, bench.size(AGAIN, 3)):
+        one, *others = bench.in_turn(jobs, runs)
+        found = {(at, by): measure.ratio("", (spent, one), by) for at, spent in enumerate(others) for by in AGAIN_ABOVE}
+        if all(row.value <= AGAIN_ABOVE[by] for (_, by), row in found.items()):
+            break
+    return found
+
+
 def beside_one(bench):
     """Several workers, beside one. Their number settles only how long it takes, so their outputs are the same."""
     found = collections.defaultdict(dict)
@@ -62,10 +76,8 @@ def beside_one(bench):
             words = bench.ours(network, width, "--hand", hand, "--form", "grants", *["--carry"] * carry)
             jobs = [[*words, "--workers", str(count)] for count in (1, *WORKERS)]
             bench.agree(jobs, path)
-            one, *others = bench.in_turn([(job, path) for job in jobs], rounds)
-            for (count, spent), by in itertools.product(zip(WORKERS, others), ("clock", "processor")):
-                row = measure.ratio("", (spent, one), by)
-                found[count, carry, by][f"{batch}, {network} {width}, hand {hand}"] = row
+            for (at, by), row in of_workers(bench, [(job, path) for job in jobs], rounds).items():
+                found[WORKERS[at], carry, by][f"{batch}, {network} {width}, hand {hand}"] = row
     for (count, carry, by), rows in sorted(found.items()):
         worst = max(rows, key=lambda name: rows[name].value)
         name = f"{count} to one, the most of all epochs{', carried' * carry}{', processor time' * (by == 'processor')}"
