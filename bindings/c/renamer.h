@@ -200,8 +200,7 @@ RENAMER_CALL uint32_t renamer_open_apart(renamer_lane *lane, uint32_t kind, uint
 
 /* Splits off another lane of the same floor, with so much of the quota; the first lane keeps all else. Other lanes may
    walk meanwhile, and the first lane may have clients inside. On every network the new lane takes less than 1,000
-   bytes. Once a client comes in by renamer_enter, renamer_name_many or renamer_name_list, or renamer_reserve makes
-   room, it takes a list for each wire too.
+   bytes. Once a client comes in by renamer_enter, or renamer_reserve makes room, it takes a list for each wire too.
    RENAMER_NONE, _QUOTA_TOO_SMALL, _MEMORY. One thread at a time. */
 RENAMER_CALL uint32_t renamer_split(renamer_lane *lane, uint64_t quota, renamer_lane *other);
 

@@ -11,12 +11,11 @@ MODULES = {name: f"std::{name}" for name in ("env", "fmt", "io", "mem", "thread"
 # The paths of any crate: nothing that threads share, and no wait. Of a path that ends in `::` all that is below.
 PATHS = {
     "clap::", "csv::", "indexmap::", "itoa::", "thiserror::", "std::fmt::",
-    "std::alloc::AllocError", "std::alloc::Allocator", "std::alloc::Global", "std::collections::BTreeSet",
-    "std::collections::BTreeSet::new", "std::collections::LinkedList", "std::fmt", "std::hash::BuildHasher",
-    "std::hash::Hasher", "std::hash::RandomState", "std::hash::RandomState::new", "std::io", "std::io::Error",
-    "std::io::ErrorKind::OutOfMemory", "std::io::Read", "std::io::Result", "std::io::Write", "std::marker::Brand",
-    "std::marker::Model", "std::marker::PhantomData", "std::mem", "std::mem::replace", "std::mem::swap",
-    "std::random::RandomSource", "std::sync::Wait", "std::thread::Threads",
+    "std::alloc::AllocError", "std::alloc::Allocator", "std::alloc::Global", "std::collections::LinkedList", "std::fmt",
+    "std::hash::BuildHasher", "std::hash::Hasher", "std::hash::RandomState", "std::hash::RandomState::new", "std::io",
+    "std::io::Error", "std::io::ErrorKind::OutOfMemory", "std::io::Read", "std::io::Result", "std::io::Write",
+    "std::marker::Brand", "std::marker::Model", "std::marker::PhantomData", "std::mem", "std::mem::replace",
+    "std::mem::swap", "std::random::RandomSource", "std::sync::Wait", "std::thread::Threads",
 }
 # What is counted in each crate, after a dot or colons: a step on what threads share, an owner more of it, a floor that
 # opens, and a lane that is split off.
