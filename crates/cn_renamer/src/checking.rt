@@ -11,7 +11,6 @@ use crate::output_fault::OutputFault;
 use cn_report::{Flaw, NamedEpoch, Pieces, named_grants_within, write_tight};
 use std::alloc::Global;
 use std::fmt;
-use std::hash::RandomState;
 use std::io::{Read, Write};
 use thiserror::Error;
 
@@ -113,8 +112,8 @@ fn write_epochs<W: Write>(
 /// many of its names are `i` modulo the width, for each `i` below it, and how many epochs and grants there are.
 ///
 /// The width is one of the widths of networks ([`cn_wiring::is_width`]). A large list has at most
-/// [`cn_spec::limits::MOST_NAMED`] grants, another [`cn_spec::limits::MOST_RECORDS`]. With a random state whoever wrote
-/// the list cannot have chosen numbers that are slow to find. Nothing is written before the whole list is judged.
+/// [`cn_spec::limits::MOST_NAMED`] grants, another [`cn_spec::limits::MOST_RECORDS`]. Nothing is written before the
+/// whole list is judged.
 ///
 /// # Errors
 /// `Flaw` with the first record that has a flaw, or the first gap; `Memory` if any growth was refused; `Write` if a
@@ -126,14 +125,13 @@ pub fn check<R: Read + Drop, W: Write>(
     writer: &mut W,
     width: u32,
     large: bool,
-    state: Option<RandomState>,
 ) -> Result<(), CheckFault>
     requires { IsWidth width }
     ensures written { let Is = IsCheckOfKnown width large (R.remaining reader) in
         HasWritten W.contents Is (written_by until_check result) writer.old writer.new }
     ensures flawed { IfErr result (IsCheckFault large (R.remaining reader)) }
 {
-    let epochs = named_grants_within(alloc, reader, large, state)?;
+    let epochs = named_grants_within(alloc, reader, large)?;
     write_epochs(alloc, writer, width, &epochs)?;
     Ok(())
 }

@@ -21,8 +21,8 @@ use std::random::RandomSource;
 use std::sync::Wait;
 use std::thread::Threads;
 
-/// Does a job: reads what it reads, and writes its text. Random words are asked for only by a job that keeps clients,
-/// of which a check does without them if there are none, and threads only by a run of more than one worker.
+/// Does a job: reads what it reads, and writes its text. Random words are asked for only by a run and a replay, and
+/// threads only by a run of more than one worker.
 ///
 /// The width of a check is one that networks have ([`cn_wiring::is_width`]), as [`parse_words`] answers it.
 ///
@@ -52,11 +52,7 @@ pub fn perform<I: Read + Drop, W: Write, S: RandomSource, R: Threads + Wait + Sy
             let state = RandomState::new(source)?;
             Ok(replay(alloc, reader, writer, &net, state)?)
         }
-        Job::Check(asked) => {
-            // It needs no random words: without them a list that was made for it may take longer.
-            let state = RandomState::new(source).ok();
-            Ok(check(alloc, reader, writer, asked.width, asked.large, state)?)
-        }
+        Job::Check(asked) => Ok(check(alloc, reader, writer, asked.width, asked.large)?),
         Job::Show(net) => Ok(show(alloc, writer, &net)?),
     }
 }

@@ -1,5 +1,6 @@
 -- Lemmas on grant lists.
 pub mod CheckedGrants
 pub mod GrantRecords
+pub mod Repeats
 pub mod TightFacts
 pub mod TightLines

@@ -2,8 +2,7 @@
 pub mod Checked
 pub mod Granted
 pub mod ListText
-pub mod Marks
+pub mod Occurrences
 pub mod Printed
-pub mod Sets
 pub mod TightList
 pub mod TightText

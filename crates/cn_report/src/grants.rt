@@ -2,9 +2,8 @@
 
 mod epochs;
 mod list;
-mod marks;
+mod occurrences;
 mod record;
-mod sets;
 pub(crate) mod text;
 pub(crate) mod tight;
 

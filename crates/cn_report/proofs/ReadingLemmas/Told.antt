@@ -1,10 +1,10 @@
 -- Causes that say why a reader stopped.
-use Rattle.cn_report.proofs.Common.{◌≡◌, ◌∙◌, ◌∷◌, [], ℕ, ap, Bool, List, Option, Some, None, Err, cond, false, refl, sym, true, Record}
+use Rattle.cn_report.proofs.Common.{◌≡◌, ◌∙◌, ◌∷◌, [], ℕ, ap, Bool, List, Option, Some, None, Err, cond, false, inl, inr, refl, sym, true, Record}
 use Rattle.csv.specs.Reading.{has_failed, reader_source}
 use Rattle.csv.specs.declared.reader.Reader.{Reader}
 use Rattle.std.specs.Prelude.{codes}
 use Rattle.std.specs.Str.{bytes_eq}
-use Rattle.cn_report.specs.Grants.TightList.{IsFlawTold, flaw_of, grant_cause_of_fault}
+use Rattle.cn_report.specs.Grants.TightList.{IsFlawTold, IsRepeatFlaw, flaw_of, grant_cause_of_fault}
 use Rattle.cn_report.specs.declared.grants.record.Flaw.{Flaw}
 use Rattle.cn_report.specs.declared.grants.record.Flaw.TheVariants as flaws
 use Rattle.cn_report.specs.declared.grants.record.GrantCause.{GrantCause}
@@ -113,8 +113,17 @@ pub flaw-told : {R : Type 0} {failed : R → Bool} {reader : Reader R} (at : ℕ
     → IsTold failed grant_cause_of_fault reader cause → IsFlawTold failed reader (flaw_of at cause)
 flaw-told at cause is = record {
   at = at;
-  stopped = λ stops. ap (flaw_of at) (is.stopped stops);
+  stopped = λ stops. inl (ap (flaw_of at) (is.stopped stops));
   read = λ n e. is.read (flaw-read at n cause e);
+}
+
+-- a record before has a client or a name twice
+pub repeat-told : {R : Type 0} (failed : R → Bool) (reader : Reader R) (flaw : Flaw) → IsRepeatFlaw flaw
+    → IsFlawTold failed reader flaw
+repeat-told failed reader flaw (at, is) = record {
+  at = at;
+  stopped = λ stops. inr (at, is);
+  read = λ n e. absurd (elim is [ inl client ↦ cc (sym client ∙ e) | inr name ↦ cc (sym name ∙ e) ]);
 }
 
 pub end-told : {R : Type 0} (failed : R → Bool) (reader : Reader R) (flaw : Flaw) → has_failed reader ≡ false

@@ -1,13 +1,13 @@
 -- What was seen of a grant list so far.
-use Rattle.std.specs.Prelude.{ℕ, ◌≡◌, ◌<◌, ◌≤◌, ◌++◌, ◌∷◌, [], List, length, map, nat_lt, Option, Some, None, if◌then◌else◌}
+use Rattle.std.specs.Prelude.{ℕ, ◌≡◌, ◌<◌, ◌≤◌, ◌+◌, ◌++◌, ◌∷◌, ◌⊎◌, [], List, length, map, nat_lt, slice_get, take, Option, Some, None, if◌then◌else◌}
 use Rattle.std.specs.List.{AllByRecursion}
-use Rattle.cn_report.specs.Grants.Granted.{has_client, has_name, last_epoch, of_epoch}
-use Rattle.cn_report.specs.Grants.TightList.{Lacks}
+use Rattle.cn_report.specs.Grants.Granted.{last_epoch, twice_cause}
+use Rattle.cn_report.specs.Grants.TightList.{Lacks, flaw_of}
 use Rattle.cn_report.specs.Grants.Printed.{epoch_numbers, named_epoch, plain_named}
-use Rattle.cn_report.specs.Grants.Sets.{has}
+use Rattle.cn_report.specs.Grants.Occurrences.{occurrences_from}
 use Rattle.cn_report.specs.declared.grants.record.Granted.{Granted}
 use Rattle.cn_report.specs.declared.grants.record.GrantCause.{GrantCause}
-use Rattle.cn_report.specs.declared.grants.record.GrantCause.TheVariants.{DuplicateClient, DuplicateName}
+use Rattle.cn_report.specs.declared.grants.record.Flaw.{Flaw}
 use Rattle.cn_report.specs.declared.grants.epochs.Gap.{Gap}
 use Rattle.cn_report.specs.declared.grants.epochs.Granting.{Granting}
 
@@ -23,13 +23,19 @@ abbrev pub IsGapBelow : ℕ → List Granted → Option Gap → Type 0
 IsGapBelow end grants None = (e n : ℕ) → e < end → Lacks grants e n → ⊥
 IsGapBelow end grants (Some gap) = IsLeastGap end grants gap
 
--- no grant is of a later epoch, the sets hold the latest epoch's clients and names, and the gap is the first before it
-pub record HoldsGrants (g : Granting) (grants : List Granted) : Type 0 where
-  pub below : AllByRecursion (λ x. x.epoch ≤ g.latest) grants
-  pub count : g.count ≡ length (of_epoch g.latest grants)
-  pub clients : (n : ℕ) → has g.clients n ≡ has_client n (of_epoch g.latest grants)
-  pub names : (n : ℕ) → has g.names n ≡ has_name n (of_epoch g.latest grants)
-  pub gap : IsGapBelow g.latest grants g.gap
+-- how many grants were added
+abbrev pub count_of : Granting → ℕ
+count_of g = g.before + length g.clients.items
+
+-- the grants of earlier epochs are counted, the clients and the names of the latest epoch stand in order, and the gap
+-- is the first before it
+pub record HoldsGrants (g : Granting) (earlier latest : List Granted) : Type 0 where
+  pub before : g.before ≡ length earlier
+  pub below : AllByRecursion (λ x. x.epoch < g.latest) earlier
+  pub here : AllByRecursion (λ x. x.epoch ≡ g.latest) latest
+  pub clients : g.clients.items ≡ occurrences_from 0 (map (λ x. x.client) latest)
+  pub names : g.names.items ≡ occurrences_from 0 (map (λ x. x.name) latest)
+  pub gap : IsGapBelow g.latest (earlier ++ latest) g.gap
 
 -- the latest epoch, if it has grants
 abbrev pub latest_number : ℕ → ℕ → List ℕ
@@ -46,18 +52,43 @@ pub record AreSeen (ended : List (ℕ × ℕ)) (latest count : ℕ) (grants : Li
   pub below : AllByRecursion (λ p. p.0 < latest) ended
 
 -- they are, if no gap was found
-abbrev pub Tells : Granting → List Granted → Type 0
-Tells g grants = g.gap ≡ None → AreSeen (map plain_named g.ended.items) g.latest g.count grants
+abbrev pub Tells : Granting → List Granted → List Granted → Type 0
+Tells g earlier latest =
+    g.gap ≡ None → AreSeen (map plain_named g.ended.items) g.latest (length latest) (earlier ++ latest)
 
 -- and the latest epoch is that of the last grant
-pub record IsChecked (g : Granting) (grants : List Granted) : Type 0 where
-  pub holds : HoldsGrants g grants
-  pub last : last_epoch grants ≡ g.latest
-  pub tells : Tells g grants
+pub record IsChecked (g : Granting) (earlier latest : List Granted) : Type 0 where
+  pub holds : HoldsGrants g earlier latest
+  pub last : last_epoch (earlier ++ latest) ≡ g.latest
+  pub tells : Tells g earlier latest
 
--- the cause of a grant of the latest epoch
-abbrev pub adding_cause : Granting → Granted → Option GrantCause
-adding_cause g grant =
-    if has g.clients grant.client then Some DuplicateClient
-    else if has g.names grant.name then Some DuplicateName
-    else None
+-- of the latest grants, after those of earlier epochs, those before this place have no client and no name twice
+abbrev pub AreFreshBefore : List Granted → List Granted → ℕ → Type 0
+AreFreshBefore earlier latest end = (i : ℕ) (grant : Granted) → i < end → slice_get latest i ≡ Some grant
+    → twice_cause (earlier ++ take i latest) grant ≡ None
+
+-- all of them
+abbrev pub AreFresh : List Granted → List Granted → Type 0
+AreFresh earlier latest = AreFreshBefore earlier latest (length latest)
+
+-- the flaw is that of the first with a client or a name that is there before
+pub record IsTwice (earlier latest : List Granted) (flaw : Flaw) : Type 0 where
+  pub place : ℕ
+  pub grant : Granted
+  pub cause : GrantCause
+  pub there : slice_get latest place ≡ Some grant
+  pub fresh : AreFreshBefore earlier latest place
+  pub twice : twice_cause (earlier ++ take place latest) grant ≡ Some cause
+  pub is : flaw ≡ flaw_of (length earlier + 1 + place) cause
+
+-- what is known once it came to an epoch: the same, or the latest grants are earlier ones now
+abbrev pub Turns : Granting → List Granted → List Granted → Type 0
+Turns g earlier latest =
+    (HoldsGrants g earlier latest × Tells g earlier latest)
+    ⊎ (AreFresh earlier latest × HoldsGrants g (earlier ++ latest) [] × Tells g (earlier ++ latest) [])
+
+-- and with one grant more
+abbrev pub IsCheckedWith : Granting → List Granted → List Granted → Granted → Type 0
+IsCheckedWith g earlier latest grant =
+    IsChecked g earlier (latest ++ grant ∷ [])
+    ⊎ (AreFresh earlier latest × IsChecked g (earlier ++ latest) (grant ∷ []))

@@ -39,11 +39,16 @@ flaw_of at cause.DuplicateClient = DuplicateClient at
 flaw_of at cause.DuplicateName = DuplicateName at
 flaw_of at cause.Memory = Memory
 
--- the flaw says why this reader has stopped, at some record, if it has; and a failed read is told of nothing else
+-- a client or a name stands at an earlier record
+abbrev pub IsRepeatFlaw : Flaw → Type 0
+IsRepeatFlaw flaw = (at : ℕ) × ((flaw ≡ DuplicateClient at) ⊎ (flaw ≡ DuplicateName at))
+
+-- the flaw says why this reader has stopped, at some record, if it has, or that a client or a name stands at an earlier
+-- record; and a failed read is said only if the reader has stopped
 pub record IsFlawTold {R : Type 0} (failed : R → Bool) (reader : Reader R) (flaw : Flaw) : Type 0 where
   pub at : ℕ
   pub stopped : has_failed reader ≡ true
-      → flaw ≡ flaw_of at (grant_cause_of_fault (fault_by (failed (reader_source reader))))
+      → (flaw ≡ flaw_of at (grant_cause_of_fault (fault_by (failed (reader_source reader))))) ⊎ IsRepeatFlaw flaw
   pub read : (n : ℕ) → flaw ≡ Read n → has_failed reader ≡ true
 
 -- the fields of the header of a grant list

@@ -1,5 +1,5 @@
 -- A hash of numbers: how it is drawn, and what it keeps after some bytes.
-use Rattle.std.specs.Prelude.{ℕ, ◌+◌, ◌*◌, ◌%◌, ◌^◌, ◌∷◌, [], List, Option, None, Some, length, nat_lt, slice_index, if◌then◌else◌}
+use Rattle.std.specs.Prelude.{ℕ, ◌+◌, ◌*◌, ◌%◌, ◌^◌, ◌∷◌, [], List, length, nat_lt, slice_index, if◌then◌else◌}
 use Rattle.std.specs.Hash.DefaultHasher as sip
 use Rattle.std.specs.Hash.{u64}
 use Rattle.std.specs.Int.{w64, from_le_bytes}
@@ -7,7 +7,6 @@ use Rattle.std.specs.List.{fold}
 use Rattle.std.specs.RandomState.{initial_hasher}
 use Rattle.std.specs.declared.random_state.RandomState.{RandomState}
 use Rattle.cn_report.specs.declared.reading.scatter.Scatter.{Scatter}
-use Rattle.cn_report.specs.declared.reading.scatter.TheConstants.{FACTOR}
 use Rattle.cn_report.specs.declared.reading.scatter.Scattered.{Scattered}
 
 -- the word that a random state has for a place: the hash of the place
@@ -20,11 +19,6 @@ drawn_by state = record {
   factor = drawn_word state 0 * 2 ^ 64 + drawn_word state 1;
   term = drawn_word state 2 * 2 ^ 64 + drawn_word state 3;
 }
-
--- and without a random state always the same
-abbrev pub scatter_by : Option RandomState → Scatter
-scatter_by (Some state) = drawn_by state
-scatter_by None = record { factor = FACTOR; term = 0 }
 
 -- the number of the first eight bytes, the lowest first
 abbrev pub word_of : List ℕ → ℕ

@@ -1,17 +1,17 @@
 //! The epochs of a grant list, as its records come.
 
-ghost use Rattle.std.specs.Prelude.{◌≡◌, ◌≢◌, ◌==◌, ◌||◌, ◌<◌, ◌≤◌, ◌+◌, ◌⊎◌, ◌∷◌, ◌++◌, ℕ, [], List, None, Some, OnOk, IfErr, IfOk, MatchResult, length, map};
+ghost use Rattle.std.specs.Prelude.{◌≡◌, ◌≢◌, ◌<◌, ◌≤◌, ◌+◌, ◌⊎◌, ◌∷◌, ◌++◌, ℕ, [], List, None, OnOk, IfErr, IfOk, MatchResult, length, map};
 ghost use Rattle.cn_report.specs.declared.grants.record.Granted.{Granted};
-ghost use Rattle.cn_report.specs.Grants.Granted.{spelled_cause};
-ghost use Rattle.cn_report.specs.Grants.Checked.{HoldsGrants, IsGapBelow, IsChecked, Tells, adding_cause, latest_seen};
+ghost use Rattle.cn_report.specs.Grants.Granted.{has_name};
+ghost use Rattle.cn_report.specs.Grants.Checked.{AreFresh, HoldsGrants, IsChecked, IsCheckedWith, IsGapBelow, IsTwice, Tells, Turns, count_of, latest_seen};
+ghost use Rattle.cn_report.specs.Grants.Occurrences.{has_number, numbers_of};
 ghost use Rattle.cn_report.specs.Grants.Printed.{epoch_numbers, named_epoch, plain_named};
-ghost use Rattle.cn_report.specs.Grants.TightList.{IsEndFlaw, Lacks};
-ghost use Rattle.cn_report.specs.Grants.Sets.{has};
+ghost use Rattle.cn_report.specs.Grants.TightList.{IsEndFlaw, IsRepeatFlaw, Lacks};
 ghost use Rattle.cn_spec.specs.declared.limits.TheConstants.{MOST_NAMED};
+ghost use Rattle.std.specs.List.Sorted.{IsStrictlyIncreasing};
 
-use crate::grants::record::{Flaw, GrantCause, Granted};
-use crate::grants::sets::Numbers;
-use crate::reading::scatter::Scatter;
+use crate::grants::occurrences::{Occurrence, first_repeat, least_missing};
+use crate::grants::record::{Flaw, Granted};
 use std::alloc::{AllocError, Global};
 
 /// A name that an epoch lacks.
@@ -31,150 +31,203 @@ pub struct NamedEpoch {
     pub clients: u32,
 }
 
-/// The epochs that ended, the first gap among them, and the latest epoch's clients and names.
+/// The epochs that ended, the first gap among them, and the latest epoch's clients and names. Which of these stand at
+/// an earlier record is looked for when the epoch ends, by sorting: that takes little longer for each record if there
+/// are more of them, in whatever order they come.
 #[derive(Drop)]
 pub(crate) struct Granting {
     ended: Vec<NamedEpoch>,
     gap: Option<Gap>,
     latest: u64,
-    count: u64,
-    clients: Numbers,
-    names: Numbers,
+    /// How many grants the epochs before the latest have.
+    before: u64,
+    clients: Vec<Occurrence>,
+    names: Vec<Occurrence>,
+}
+
+/// Appends an item, or drops it.
+fn push<T: Drop>(items: &mut Vec<T>, item: T) -> Result<(), AllocError>
+    ensures { OnOk result (items.new.items ≡ items.old.items ++ item ∷ []) }
+{
+    items.push(item)?;
+    Ok(())
 }
 
 impl Granting {
     /// What is known before the first record: no epoch, no gap.
-    pub(crate) fn new(alloc: Global, scatter: Scatter) -> Self
-        ensures checked { IsChecked result [] }
-        ensures count { result.count ≡ 0 }
+    pub(crate) fn new(alloc: Global) -> Self
+        ensures checked { IsChecked result [] [] }
+        ensures count { count_of result ≡ 0 }
     {
         Granting {
             ended: Vec::new(alloc),
             gap: None,
             latest: 0,
-            count: 0,
-            clients: Numbers::new(alloc, scatter),
-            names: Numbers::new(alloc, scatter),
+            before: 0,
+            clients: Vec::new(alloc),
+            names: Vec::new(alloc),
         }
     }
 
-    /// The first gap of the epochs so far, if the latest ends.
-    pub(crate) fn first_gap(&self) -> Option<Gap>
-        ensures gap { (grants : List Granted) → HoldsGrants self.now grants
-            → IsGapBelow (self.now.latest + 1) grants result }
-        ensures none { result ≡ None → self.now.gap ≡ None }
+    /// The latest epoch.
+    pub(crate) fn latest(&self) -> u64
+        ensures { result ≡ self.now.latest }
     {
-        if let Some(gap) = self.gap {
-            return Some(gap);
-        }
-        let name = self.names.least_missing(self.count)?;
-        Some(Gap {
-            epoch: self.latest,
-            name,
-        })
+        self.latest
     }
 
-    /// Ends the latest epoch, and adds it to those that ended if it has grants and no gap was found.
-    fn end_latest(&mut self) -> Result<(), AllocError>
-        requires few { self.old.count ≤ MOST_NAMED }
+    /// Looks through the latest epoch for a record whose client or name stands at an earlier one.
+    ///
+    /// # Errors
+    /// The first such record, by the client if both do.
+    pub(crate) fn settle(&mut self) -> Result<(), Flaw>
+        requires few { count_of self.old ≤ MOST_NAMED }
+        ensures same { (self.new.ended ≡ self.old.ended) × (self.new.gap ≡ self.old.gap)
+            × (self.new.latest ≡ self.old.latest) × (self.new.before ≡ self.old.before)
+            × (length self.new.clients.items ≡ length self.old.clients.items)
+            × (length self.new.names.items ≡ length self.old.names.items) }
+        ensures fresh { OnOk result ((earlier latest : List Granted) → HoldsGrants self.old earlier latest
+            → AreFresh earlier latest) }
+        ensures names { OnOk result ((earlier latest : List Granted) → HoldsGrants self.old earlier latest
+            → IsStrictlyIncreasing (numbers_of self.new.names.items)
+            × ((n : ℕ) → has_number (numbers_of self.new.names.items) n ≡ has_name n latest)) }
+        ensures twice { IfErr result (λ flaw. (earlier latest : List Granted)
+            → HoldsGrants self.old earlier latest → IsTwice earlier latest flaw) }
+        ensures own { IfErr result IsRepeatFlaw }
+    {
+        let client = first_repeat(self.clients.as_mut_slice());
+        let name = first_repeat(self.names.as_mut_slice());
+        let next = self.before + 1;
+        match (client, name) {
+            (None, None) => Ok(()),
+            (Some(client), None) => Err(Flaw::DuplicateClient(next + u64::from(client))),
+            (None, Some(name)) => Err(Flaw::DuplicateName(next + u64::from(name))),
+            (Some(client), Some(name)) if name < client => {
+                Err(Flaw::DuplicateName(next + u64::from(name)))
+            }
+            (Some(client), Some(_)) => Err(Flaw::DuplicateClient(next + u64::from(client))),
+        }
+    }
+
+    /// Ends the latest epoch: finds the first gap, if none was found before, and if there is none adds the epoch to
+    /// those that ended, if it has grants.
+    ///
+    /// # Errors
+    /// Those of [`Granting::settle`], and `Memory`.
+    fn end_latest(&mut self) -> Result<(), Flaw>
+        requires few { count_of self.old ≤ MOST_NAMED }
         ensures same { OnOk result ((self.new.latest ≡ self.old.latest)
-            × (self.new.count ≡ self.old.count)) }
-        ensures gap { OnOk result ((grants : List Granted) → HoldsGrants self.old grants
-            → IsGapBelow (self.old.latest + 1) grants self.new.gap) }
+            × (self.new.before ≡ self.old.before)
+            × (length self.new.clients.items ≡ length self.old.clients.items)) }
+        ensures fresh { OnOk result ((earlier latest : List Granted) → HoldsGrants self.old earlier latest
+            → AreFresh earlier latest) }
+        ensures gap { OnOk result ((earlier latest : List Granted) → HoldsGrants self.old earlier latest
+            → IsGapBelow (self.old.latest + 1) (earlier ++ latest) self.new.gap) }
         ensures ended { OnOk result (self.new.gap ≡ None → (self.old.gap ≡ None)
-            × (map plain_named self.new.ended.items
-            ≡ map plain_named self.old.ended.items
-            ++ latest_seen self.old.latest self.old.count)) }
+            × (map plain_named self.new.ended.items ≡ map plain_named self.old.ended.items
+            ++ latest_seen self.old.latest (length self.old.clients.items))) }
+        ensures twice { IfErr result (λ flaw. (earlier latest : List Granted)
+            → HoldsGrants self.old earlier latest
+            → IsTwice earlier latest flaw ⊎ (flaw ≡ Flaw.Memory)) }
+        ensures own { IfErr result (λ flaw. (at : ℕ) → flaw ≢ Flaw.Read at) }
     {
-        self.gap = self.first_gap();
-        if self.gap.is_none() && self.count > 0 {
-            self.ended.push(NamedEpoch {
-                number: self.latest,
-                clients: self.count as u32,
-            })?;
+        self.settle()?;
+        if self.gap.is_some() {
+            return Ok(());
+        }
+        if let Some(name) = least_missing(self.names.as_slice()) {
+            self.gap = Some(Gap {
+                epoch: self.latest,
+                name,
+            });
+        } else if !self.clients.is_empty() {
+            let clients = self.clients.len() as u32;
+            push(
+                &mut self.ended,
+                NamedEpoch {
+                    number: self.latest,
+                    clients,
+                },
+            )?;
         }
         Ok(())
     }
 
     /// Comes to this epoch.
-    fn turn_to(&mut self, epoch: u64) -> Result<(), AllocError>
-        requires few { self.old.count ≤ MOST_NAMED }
+    ///
+    /// # Errors
+    /// Those of [`Granting::settle`], and `Memory`.
+    fn turn_to(&mut self, epoch: u64) -> Result<(), Flaw>
+        requires few { count_of self.old ≤ MOST_NAMED }
         requires later { self.old.latest ≤ epoch }
         ensures here { OnOk result (self.new.latest ≡ epoch) }
-        ensures holds { OnOk result ((grants : List Granted) → HoldsGrants self.old grants
-            → HoldsGrants self.new grants) }
-        ensures tells { OnOk result ((grants : List Granted) → HoldsGrants self.old grants
-            → Tells self.old grants → Tells self.new grants) }
-        ensures count { OnOk result (self.new.count ≤ self.old.count) }
+        ensures count { OnOk result (count_of self.new ≡ count_of self.old) }
+        ensures holds { OnOk result ((earlier latest : List Granted) → HoldsGrants self.old earlier latest
+            → Tells self.old earlier latest → Turns self.new earlier latest) }
+        ensures twice { IfErr result (λ flaw. (earlier latest : List Granted)
+            → HoldsGrants self.old earlier latest
+            → IsTwice earlier latest flaw ⊎ (flaw ≡ Flaw.Memory)) }
+        ensures own { IfErr result (λ flaw. (at : ℕ) → flaw ≢ Flaw.Read at) }
     {
         if self.latest == epoch {
             return Ok(());
         }
         self.end_latest()?;
         self.latest = epoch;
-        self.count = 0;
+        self.before += self.clients.len() as u64;
         self.clients.clear();
         self.names.clear();
         Ok(())
     }
 
-    /// Adds a grant of the latest epoch, which is record `at`, if it has no cause.
-    fn add_to_latest(&mut self, at: u64, grant: Granted) -> Result<(), GrantCause>
-        requires { self.old.count < MOST_NAMED }
-        ensures ok { OnOk result ((adding_cause self.old grant ≡ None)
-            × (self.new.ended ≡ self.old.ended) × (self.new.gap ≡ self.old.gap)
-            × (self.new.latest ≡ self.old.latest)
-            × (self.new.count ≡ self.old.count + 1)
-            × ((n : ℕ) → has self.new.clients n ≡ ((n == grant.client) || has self.old.clients n))
-            × ((n : ℕ) → has self.new.names n ≡ ((n == grant.name) || has self.old.names n))) }
-        ensures err { IfErr result (λ cause.
-            (adding_cause self.old grant ≡ Some cause) ⊎ (cause ≡ GrantCause.Memory)) }
-        ensures own { IfErr result (λ cause. cause ≢ GrantCause.Read) }
+    /// Adds a grant, which is of the latest epoch or of a later one.
+    ///
+    /// # Errors
+    /// Those of [`Granting::settle`], if it is of a later one, and `Memory`.
+    pub(crate) fn add(&mut self, grant: Granted) -> Result<(), Flaw>
+        requires few { count_of self.old < MOST_NAMED }
+        requires later { self.old.latest ≤ grant.epoch }
+        ensures count { OnOk result (count_of self.new ≡ count_of self.old + 1) }
+        ensures ok { OnOk result ((earlier latest : List Granted) → IsChecked self.old earlier latest
+            → IsCheckedWith self.new earlier latest grant) }
+        ensures twice { IfErr result (λ flaw. (earlier latest : List Granted)
+            → HoldsGrants self.old earlier latest
+            → IsTwice earlier latest flaw ⊎ (flaw ≡ Flaw.Memory)) }
+        ensures own { IfErr result (λ flaw. (at : ℕ) → flaw ≢ Flaw.Read at) }
     {
-        match self.clients.add(at, grant.client) {
-            Ok(true) => {}
-            Ok(false) => return Err(GrantCause::DuplicateClient),
-            Err(_) => return Err(GrantCause::Memory),
-        }
-        match self.names.add(at, grant.name) {
-            Ok(true) => {}
-            Ok(false) => return Err(GrantCause::DuplicateName),
-            Err(_) => return Err(GrantCause::Memory),
-        }
-        self.count += 1;
+        self.turn_to(grant.epoch)?;
+        let place = self.clients.len() as u32;
+        push(
+            &mut self.clients,
+            Occurrence {
+                number: grant.client,
+                place,
+            },
+        )?;
+        push(
+            &mut self.names,
+            Occurrence {
+                number: grant.name,
+                place,
+            },
+        )?;
         Ok(())
     }
 
-    /// Adds a grant, which is record `at` of so many at most, if it has no cause.
-    pub(crate) fn add(&mut self, most: u64, at: u64, grant: Granted) -> Result<(), GrantCause>
-        requires most { most ≤ MOST_NAMED }
-        requires count { self.old.count < at }
-        ensures ok { OnOk result ((before : List Granted) → IsChecked self.old before
-            → length before + 1 ≡ at
-            → (spelled_cause most before (Some grant) ≡ None)
-            × IsChecked self.new (before ++ grant ∷ [])) }
-        ensures few { OnOk result (at ≤ most) }
-        ensures count { OnOk result (self.new.count ≤ at) }
-        ensures err { IfErr result (λ cause. (before : List Granted)
-            → IsChecked self.old before → length before + 1 ≡ at
-            → (spelled_cause most before (Some grant) ≡ Some cause) ⊎ (cause ≡ GrantCause.Memory)) }
-        ensures own { IfErr result (λ cause. cause ≢ GrantCause.Read) }
-    {
-        if grant.epoch < self.latest || at > most {
-            return Err(GrantCause::Form);
-        }
-        self.turn_to(grant.epoch)?;
-        self.add_to_latest(at, grant)
-    }
-
     /// The epochs, if none lacks a name.
+    ///
+    /// # Errors
+    /// Those of [`Granting::settle`], the first gap, and `Memory`.
     pub(crate) fn finish(self) -> Result<Vec<NamedEpoch>, Flaw>
-        requires few { self.count ≤ MOST_NAMED }
-        ensures answer { (grants : List Granted) → HoldsGrants self grants
-            → MatchResult result (λ _. (e n : ℕ) → Lacks grants e n → ⊥) (IsEndFlaw grants) }
-        ensures found { IfOk result (λ epochs. (grants : List Granted) → HoldsGrants self grants
-            → Tells self grants
-            → map plain_named epochs.items ≡ map (named_epoch grants) (epoch_numbers grants)) }
+        requires few { count_of self ≤ MOST_NAMED }
+        ensures answer { (earlier latest : List Granted) → HoldsGrants self earlier latest
+            → MatchResult result (λ _. AreFresh earlier latest × ((e n : ℕ) → Lacks (earlier ++ latest) e n → ⊥))
+            (λ flaw. IsTwice earlier latest flaw ⊎ (flaw ≡ Flaw.Memory)
+            ⊎ (AreFresh earlier latest × IsEndFlaw (earlier ++ latest) flaw)) }
+        ensures found { IfOk result (λ epochs. (earlier latest : List Granted)
+            → HoldsGrants self earlier latest → Tells self earlier latest
+            → map plain_named epochs.items
+            ≡ map (named_epoch (earlier ++ latest)) (epoch_numbers (earlier ++ latest))) }
         ensures own { IfErr result (λ flaw. (at : ℕ) → flaw ≢ Flaw.Read at) }
     {
         let mut granting = self;

@@ -1,25 +1,21 @@
 //! A grant list that is read: a header, and a grant a record.
 
-ghost use Rattle.std.specs.Prelude.{◌≡◌, ◌<◌, ◌≤◌, ◌+◌, ◌⊎◌, ◌∷◌, ◌++◌, [], ℕ, List, IfErr, IfOk, IfSome, MatchResult, OnOk, None, Some, length, true};
-ghost use Rattle.std.specs.Bool.{MatchBool};
+ghost use Rattle.std.specs.Prelude.{◌≡◌, ◌≤◌, ◌+◌, ◌⊎◌, ◌∷◌, ◌++◌, [], ℕ, List, IfErr, IfOk, IfSome, MatchOption, MatchResult, OnOk, None, Some, length};
 ghost use Rattle.cn_spec.specs.declared.limits.TheConstants.{MOST_NAMED, MOST_RECORDS};
 ghost use Rattle.cn_report.specs.declared.grants.record.Granted.{Granted};
-ghost use Rattle.cn_report.specs.Grants.Granted.{grant_spelled, spelled_cause};
+ghost use Rattle.cn_report.specs.Grants.Granted.{grant_spelled, last_epoch, spelled_form};
 ghost use Rattle.cn_report.specs.Grants.TightList.{IsFirstWithCause, IsFlaw, IsFlawTold, IsOutside, IsTightList, grant_cause_of_fault, header_cause};
-ghost use Rattle.cn_report.specs.Grants.Checked.{IsChecked};
 ghost use Rattle.cn_report.specs.Grants.Printed.{IsNamedList};
 ghost use Rattle.cn_report.specs.Reading.Bounds.{bounds_of};
 ghost use Rattle.cn_report.specs.Reading.Records.{HasRead, IsPlain, IsTold, Record, records_of};
 
 use crate::grants::epochs::{Granting, NamedEpoch};
-use crate::grants::record::{Flaw, GrantCause, flaw_at, granted_of};
+use crate::grants::record::{Flaw, GrantCause, Granted, flaw_at, granted_of};
 use crate::reading::Bounds;
 use crate::reading::clipped::{Clipped, ReadTelling};
 use crate::reading::records::{is_header, next_record, open_records};
-use crate::reading::scatter::Scatter;
 use csv::{ByteRecord, Reader};
 use std::alloc::Global;
-use std::hash::RandomState;
 use std::io::Read;
 
 /// Takes the header.
@@ -43,47 +39,39 @@ fn take_header<R: ReadTelling>(
     }
 }
 
-/// Takes the grant of record `at`, of so many at most, and returns whether there was one.
-fn take_grant<R: ReadTelling>(
+/// The next grant, if there is one, which is record `at` of so many at most, after those of the latest epoch.
+fn next_grant<R: ReadTelling>(
     records: &mut Reader<R>,
     fields: &mut ByteRecord,
     most: u64,
     at: u64,
-    granting: &mut Granting,
-) -> Result<bool, GrantCause>
+    latest: u64,
+) -> Result<Option<Granted>, GrantCause>
     requires plain { IsPlain records.old }
-    requires most { most ≤ MOST_NAMED }
-    requires count { granting.old.count < at }
     ensures plain { OnOk result (IsPlain records.new) }
-    ensures found { IfOk result (λ found.
-        (text : List ℕ) (before : List Record) (grants : List Granted)
+    ensures found { IfOk result (λ found. (text : List ℕ) (before : List Record)
         → HasRead R.remaining records.old text before
-        → IsChecked granting.old grants → length grants + 1 ≡ at
-        → MatchBool found ((fields : Record) × (grant : Granted)
-        × HasRead R.remaining records.new text (before ++ fields ∷ [])
-        × (grant_spelled fields ≡ Some grant) × (spelled_cause most grants (Some grant) ≡ None)
-        × IsChecked granting.new (grants ++ grant ∷ []))
-        ((records_of text ≡ before) × IsChecked granting.new grants)) }
-    ensures refused { IfErr result (λ cause.
-        (text : List ℕ) (before : List Record) (grants : List Granted)
+        → MatchOption found (records_of text ≡ before) (λ grant. (fields : Record)
+        × HasRead R.remaining records.new text (before ++ fields ∷ []) × (grant_spelled fields ≡ Some grant))) }
+    ensures form { IfOk result (λ found. IfSome found (λ grant. (latest ≤ grant.epoch) × (at ≤ most))) }
+    ensures refused { IfErr result (λ cause. (text : List ℕ) (before : List Record) (grants : List Granted)
         → HasRead R.remaining records.old text before
-        → IsChecked granting.old grants → length grants + 1 ≡ at
+        → last_epoch grants ≡ latest → length grants + 1 ≡ at
         → ((fields : Record) × HasRead R.remaining records.new text (before ++ fields ∷ [])
-        × (spelled_cause most grants (grant_spelled fields) ≡ Some cause))
+        × (spelled_form most grants (grant_spelled fields) ≡ Some cause))
         ⊎ (cause ≡ GrantCause.Read) ⊎ (cause ≡ GrantCause.Memory)) }
     ensures told { IfErr result (IsTold R.failed grant_cause_of_fault records.new) }
-    ensures few { IfOk result (λ found. found ≡ true → at ≤ most) }
-    ensures count { IfOk result (λ found.
-        MatchBool found (granting.new.count ≤ at) (granting.new.count < at)) }
 {
     if !next_record(records, fields)? {
-        return Ok(false);
+        return Ok(None);
     }
     let Some(grant) = granted_of(fields) else {
         return Err(GrantCause::Form);
     };
-    granting.add(most, at, grant)?;
-    Ok(true)
+    if grant.epoch < latest || at > most {
+        return Err(GrantCause::Form);
+    }
+    Ok(Some(grant))
 }
 
 /// Takes the header and the grants, of which there are so many at most.
@@ -92,7 +80,6 @@ fn take_grants<R: ReadTelling>(
     records: &mut Reader<R>,
     fields: &mut ByteRecord,
     most: u64,
-    scatter: Scatter,
 ) -> Result<Vec<NamedEpoch>, Flaw>
     requires plain { IsPlain records.old }
     requires most { most ≤ MOST_NAMED }
@@ -101,15 +88,18 @@ fn take_grants<R: ReadTelling>(
         MatchResult result (λ epochs. IsNamedList most records epochs.items) (IsFlaw most records) }
     ensures told { IfErr result (IsFlawTold R.failed records.new) }
 {
-    let mut granting = Granting::new(alloc, scatter);
+    let mut granting = Granting::new(alloc);
     if let Err(cause) = take_header(records, fields) {
         return Err(flaw_at(0, cause));
     }
     for at in 1..most + 2 {
-        match take_grant(records, fields, most, at, &mut granting) {
-            Ok(true) => {}
-            Ok(false) => return granting.finish(),
-            Err(cause) => return Err(flaw_at(at, cause)),
+        match next_grant(records, fields, most, at, granting.latest()) {
+            Ok(Some(grant)) => granting.add(grant)?,
+            Ok(None) => return granting.finish(),
+            Err(cause) => {
+                granting.settle()?;
+                return Err(flaw_at(at, cause));
+            }
         }
     }
     // Record `most + 1` is the last that is read.
@@ -119,8 +109,8 @@ fn take_grants<R: ReadTelling>(
 /// Whether a grant list gives each epoch's clients the names below their number, each once: a header
 /// `epoch,client,name`, and then a record of three numbers for each grant, as `csv` reads them. An epoch is a run of
 /// records of one number, and the numbers rise. Of each epoch it returns the number, and how many clients it has: by
-/// any width exit i's share of so many is how many of the names are `i` modulo the width. Great numbers that do not
-/// come in order are hashed by two fixed numbers, so whoever wrote the list can make them slow to find.
+/// any width exit i's share of so many is how many of the names are `i` modulo the width. Clients and names that stand
+/// at an earlier record are found when their epoch ends.
 ///
 /// # Errors
 ///
@@ -133,11 +123,10 @@ pub fn named_grants<R: Read + Drop>(alloc: Global, reader: R) -> Result<Vec<Name
     ensures exact { IfSome (R.remaining reader) (λ text.
         IfErr result (λ flaw. IsTightList MOST_RECORDS (records_of text) → IsOutside flaw)) }
 {
-    named_grants_within(alloc, reader, false, None)
+    named_grants_within(alloc, reader, false)
 }
 
 /// As [`named_grants`], of a list which is large or not, and has as many grants as its bounds say ([`Bounds::of`]).
-/// With a random state whoever wrote the list cannot have chosen numbers that are slow to find.
 ///
 /// # Errors
 ///
@@ -146,7 +135,6 @@ pub fn named_grants_within<R: Read + Drop>(
     alloc: Global,
     reader: R,
     large: bool,
-    state: Option<RandomState>,
 ) -> Result<Vec<NamedEpoch>, Flaw>
     ensures answer { IfSome (R.remaining reader) (λ text. let most = (bounds_of large 0).records in
         MatchResult result (λ epochs. IsNamedList most (records_of text) epochs.items)
@@ -157,6 +145,5 @@ pub fn named_grants_within<R: Read + Drop>(
     let mut records = open_records(alloc, Clipped::new(reader))?;
     let mut fields = ByteRecord::new(alloc);
     let bounds = Bounds::of(large, 0);
-    let scatter = Scatter::of(state);
-    take_grants(alloc, &mut records, &mut fields, bounds.records, scatter)
+    take_grants(alloc, &mut records, &mut fields, bounds.records)
 }

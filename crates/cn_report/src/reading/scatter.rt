@@ -1,7 +1,7 @@
-//! A hash of numbers, which is drawn at random if it can be, for a table whose keys anybody may pick.
+//! A hash of numbers, which is drawn at random, for a table whose keys anybody may pick.
 
 ghost use Rattle.std.specs.Prelude.{◌≡◌, ◌+◌, ◌*◌, ◌^◌};
-ghost use Rattle.cn_report.specs.Reading.Scatter.{drawn_by, drawn_word, scatter_by, scattered, word_of};
+ghost use Rattle.cn_report.specs.Reading.Scatter.{drawn_by, drawn_word, scattered, word_of};
 
 use std::hash::{BuildHasher, Hasher, RandomState};
 
@@ -15,9 +15,6 @@ pub(crate) struct Scatter {
     factor: u128,
     term: u128,
 }
-
-/// The factor without a random state: the odd number nearest to 2^128 divided by the golden ratio.
-const FACTOR: u128 = 0x9E37_79B9_7F4A_7C15_F39C_C060_5CED_C835;
 
 /// The word that a random state has for a place.
 fn drawn_word(state: &RandomState, place: u64) -> u64
@@ -41,19 +38,6 @@ impl Scatter {
         Scatter {
             factor: joined(drawn_word(&state, 0), drawn_word(&state, 1)),
             term: joined(drawn_word(&state, 2), drawn_word(&state, 3)),
-        }
-    }
-
-    /// Drawn by a random state if there is one, and else the same always.
-    pub(crate) fn of(state: Option<RandomState>) -> Self
-        ensures { result ≡ scatter_by state }
-    {
-        match state {
-            Some(state) => Scatter::drawn(state),
-            None => Scatter {
-                factor: FACTOR,
-                term: 0,
-            },
         }
     }
 }

@@ -123,7 +123,7 @@ pub(crate) fn send_numbered<W: Write, I: Integer>(
     number: I,
     end: &str,
 )
-    requires { length word.now + length end.now ≤ ROOM }
+    requires { (length word.now ≤ MOST_WORDS) × (length end.now ≤ MOST_WORDS) }
     ensures { Puts W.contents writer.old writer.new pieces.old pieces.new
         (word.now ++ (I.text number ++ end.now)) }
 {

@@ -176,7 +176,7 @@ fn checked(
 ) -> Option<(Result<(), CheckFault>, Vec<u8>)> {
     let mut written = Vec::new(alloc);
     if is_width(2) {
-        let done = check(alloc, full_list(last), &mut written, 2, large, None);
+        let done = check(alloc, full_list(last), &mut written, 2, large);
         Some((done, written))
     } else {
         None
