@@ -82,6 +82,7 @@ impl Lane {
     ///
     /// # Errors
     /// [`Error::StillWalking`], [`Error::NoSuchEntry`], [`Error::QuotaSpent`], [`Error::Memory`]: the first that stands.
+    #[inline]
     pub fn name(&mut self, client: u64, entry: u64) -> Result<u64, Error> {
         self.raw.name(client, entry)
     }
@@ -100,6 +101,7 @@ impl Lane {
     ///
     /// # Errors
     /// As those of [`Lane::name`].
+    #[inline]
     pub fn index(&mut self, client: u64, entry: u64) -> Result<usize, Error> {
         self.name(client, entry).map(index)
     }

@@ -96,12 +96,19 @@ fn must_be_of_this_version() {
 }
 
 /// What a status says.
+#[inline]
 fn done(status: u32) -> Result<(), Error> {
     if status == 0 {
         return Ok(());
     }
-    Err(Error::of(status)
-        .unwrap_or_else(|| panic!("the library returned the status {status}, which this crate does not know")))
+    Err(refusal(status))
+}
+
+/// Why a call was refused.
+#[cold]
+fn refusal(status: u32) -> Error {
+    Error::of(status)
+        .unwrap_or_else(|| panic!("the library returned the status {status}, which this crate does not know"))
 }
 
 /// A number that a call asks of a handle, and that is there as long as the handle is.
@@ -166,6 +173,7 @@ impl RawLane {
         done(unsafe { renamer_reserve(&raw mut self.0, clients) })
     }
 
+    #[inline]
     pub(crate) fn name(&mut self, client: u64, entry: u64) -> Result<u64, Error> {
         let mut name = 0;
         // SAFETY: `&mut` is the only way to the handle, and the name is a variable of its own.
@@ -354,6 +362,7 @@ impl RawTaker {
         Ok(RawTaker(other))
     }
 
+    #[inline]
     pub(crate) fn take(&mut self, entry: u64) -> Result<u64, Error> {
         let mut name = 0;
         // SAFETY: `&mut` is the only way to the handle, and the name is a variable of its own.

@@ -69,6 +69,7 @@ impl Taker {
     ///
     /// # Errors
     /// [`Error::NoSuchEntry`], [`Error::QuotaSpent`]: the first that stands.
+    #[inline]
     pub fn take(&mut self, entry: u64) -> Result<u64, Error> {
         self.raw.take(entry)
     }

@@ -4,6 +4,7 @@ pub mod Outs
 pub mod Swept
 pub mod Lanes
 pub mod Alone
+pub mod Depths
 pub mod Named
 pub mod Listed
 pub mod InTurn

@@ -1,17 +1,19 @@
 -- Clients of a list who come in by one entry and pass the ends of wires together.
-use Rattle.std.specs.Prelude.{◌≡◌, ◌≢◌, ℕ, zero, suc, ◌+◌, ◌-◌, ◌*◌, ◌<◌, ◌++◌, ◌==◌, [], ◌∷◌, List, count_by, length, map, replicate, slice_index, take}
+use Rattle.std.specs.Prelude.{◌≡◌, ◌≢◌, ℕ, zero, suc, ◌+◌, ◌-◌, ◌*◌, ◌<◌, ◌≤◌, ◌^◌, ◌++◌, ◌==◌, [], ◌∷◌, List, count_by, length, map, replicate, slice_index, take, vec_capacity}
 use Rattle.cn_spec.specs.Sums.{times}
 use Rattle.cn_ledger.specs.declared.client.Client.{Client}
-use Rattle.cn_yard.specs.Deals.{every_second}
-use Rattle.cn_yard.specs.Lists.{on}
-use Rattle.cn_floor.specs.declared.floor.listed.Group.{Group}
+use Rattle.cn_wiring.specs.Table.{IsWellFormed, Stands, end_of}
+use Rattle.cn_wiring.specs.declared.end.End.{End}
+use Rattle.cn_yard.specs.Lists.{on, times_in}
+use Rattle.cn_floor.specs.declared.floor.listed.Granting.{Granting}
+use Rattle.cn_floor.specs.declared.floor.listed.Places.{Places}
 use Rattle.cn_floor.specs.declared.view.Grant.{Grant}
 use Rattle.cn_floor.specs.declared.view.Start.{Start}
 use Rattle.cn_floor.specs.declared.view.View.{View}
 use Rattle.cn_floor.specs.Lane.{LaneValue}
 use Rattle.cn_floor.specs.EntersAll.{EnterInTurn, after_enter_all}
 use Rattle.cn_floor.specs.Steps.{IsAtomicStep, StoodInState}
-use Rattle.cn_floor.specs.Sweeps.{SweptBy}
+use Rattle.cn_floor.specs.Sweeps.{AreLetBy, SweptBy, after_sweep}
 
 -- of a list's clients those at the places first, first + stride and so on, so many; each is a token with the number of
 -- its place
@@ -19,16 +21,24 @@ unfoldable pub placed : List ℕ → ℕ → ℕ → ℕ → List (ℕ × ℕ)
 placed clients first stride zero = []
 placed clients first stride (suc n) = (first, slice_index clients first) ∷ placed clients (first + stride) stride n
 
--- these tokens are those of a group of the list
-pub record Stand (clients : List ℕ) (g : Group) (tokens : List (ℕ × ℕ)) : Type 0 where
-  pub are : tokens ≡ placed clients g.first g.stride g.count
-  pub within : 0 < g.count → g.first + g.stride * (g.count - 1) < length clients
+-- what stays the same of a lane's grants and a list of clients who get more
+pub record ListFrame : Type 0 where
+  pub name : ℕ
+  pub capacity : ℕ
+  pub clients : List ℕ
 
--- a group is dealt to two, of which the first has every second from an output on
-pub record AreDealt (clients : List ℕ) (g : Group) (output : ℕ) (first second : Group) : Type 0 where
-  pub upper : Stand clients first (every_second output (placed clients g.first g.stride g.count))
-  pub lower : Stand clients second (every_second (1 - output) (placed clients g.first g.stride g.count))
-  pub all : first.count + second.count ≡ g.count
+abbrev pub frame_of : Granting → ListFrame
+frame_of notes = record {
+  name = notes.grants.ghost_name;
+  capacity = vec_capacity notes.grants.now;
+  clients = notes.clients.now;
+}
+
+-- these tokens are so many of the list's clients, from a place on
+pub record Stand (frame : ListFrame) (p : Places) (count : ℕ) (tokens : List (ℕ × ℕ)) : Type 0 where
+  pub are : tokens ≡ placed frame.clients p.first p.stride count
+  pub within : 0 < count → p.first + p.stride * (count - 1) < length frame.clients
+  pub few : length frame.clients < 2 ^ 63
 
 -- grants for these tokens: as many, and to each client as often as it has tokens
 pub record AreTheirs (tokens : List (ℕ × ℕ)) (grants : List Grant) : Type 0 where
@@ -51,6 +61,21 @@ pub record CameIn (v w : View) (clients : List ℕ) (entry k : ℕ) : Type 0 whe
   pub wires : length w.tokens ≡ length v.tokens
   pub there : on w.tokens entry ≡ placed clients 0 1 (k)
   pub others : (u : ℕ) → u ≢ entry → on w.tokens u ≡ []
+
+-- all tokens of a wire, of which there are some, go by an end together, and the first gets the number n; nobody stands
+-- on a greater wire
+pub record GoTogether (start : Start) (wire : ℕ) (end : End) (n : ℕ) (v w : View) : Type 0 where
+  pub formed : IsWellFormed start.network.table
+  pub low : wire < length start.network.table.ends
+  pub ends : end_of start.network.table wire ≡ end
+  pub stands : Stands start.network.table end
+  pub once : (token : ℕ) → times_in v.tokens token ≤ 1
+  pub wires : length v.tokens ≡ length start.network.table.ends
+  pub of : v.start ≡ start
+  pub some : 0 < length (on v.tokens wire)
+  pub above : (u : ℕ) → wire < u → on v.tokens u ≡ []
+  pub went : w ≡ after_sweep wire end n v
+  pub by : AreLetBy start v w wire end n
 
 -- what these tokens, which stood on a wire, made of a view until all of them had left
 pub record HaveLeft (v w : View) (wire : ℕ) (tokens : List (ℕ × ℕ)) : Type 0 where

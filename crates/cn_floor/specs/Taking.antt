@@ -1,5 +1,6 @@
 -- A taker as contracts see it, and what calls make of one.
-use Rattle.std.specs.Prelude.{◌≡◌, ℕ, ◌+◌, ◌<◌, ◌++◌, List, length, map, replicate}
+use Rattle.std.specs.Prelude.{◌≡◌, ℕ, ◌+◌, ◌<◌, ◌++◌, List, get_or, length, map, replicate}
+use Rattle.cn_floor.specs.declared.floor.taking.Names.{Names}
 use Rattle.cn_floor.specs.declared.view.Grant.{Grant}
 use Rattle.cn_floor.specs.declared.view.View.{View}
 use Rattle.cn_floor.specs.Lane.{FloorValue}
@@ -35,3 +36,8 @@ pub record AreTaken (old new : TakerValue) (clients : List ℕ) (entry : ℕ) (n
   pub grants : (more : List Grant) × (new.view.grants ≡ old.view.grants ++ more) × (names ≡ map (λ g. g.name) more)
   -- the taker stands in some state: so the rule holds of its names
   pub in_state : 0 < length clients → StoodInState old.home.start new.view
+
+-- the names of all grants but the first ones are written
+pub record AreWritten (before now : List Grant) (notes : Names) : Type 0 where
+  pub many : length now ≡ length before + notes.at
+  pub each : (k : ℕ) (d : Grant) → k < notes.at → get_or notes.names.now k 0 ≡ (get_or now (length before + k) d).name

@@ -11,6 +11,7 @@ mod looking;
 mod naming;
 mod network_ref;
 mod opening;
+mod passing;
 mod plays;
 mod quiet;
 mod reading;

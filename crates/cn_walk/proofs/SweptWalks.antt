@@ -15,9 +15,9 @@ use Rattle.cn_floor.specs.declared.view.View.{View}
 use Rattle.cn_floor.specs.Lane.{LaneValue}
 use Rattle.cn_floor.specs.Sweeps.{PutsAll, SweepsOn, after_steps, after_sweep, grants_out}
 use Rattle.cn_floor.specs.Views.{after_step, base}
-use Rattle.cn_walk.specs.Walks.{Walks, inside_by, steps_left}
+use Rattle.cn_walk.specs.Walks.{Walks, inside_by}
 use Rattle.cn_floor.proofs.CallerLemmas.{MayGo, goes-there, grants-kept, grants-left, kin-by, rest-may, some-inside}
-use Rattle.cn_walk.proofs.Walks.{IsHeld, left_by, less-left, less-passed, passed_by}
+use Rattle.cn_walk.proofs.Walks.{IsHeld, left_by, less-left, less-passed, passed_by, steps_left}
 
 -- what the clients of tokens weigh that leave by an end
 abbrev out-by : (ℕ → ℕ) → End → List (ℕ × ℕ) → ℕ

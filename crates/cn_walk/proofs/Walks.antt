@@ -15,8 +15,12 @@ use Rattle.cn_floor.specs.declared.view.View.{View}
 use Rattle.cn_floor.specs.Lane.{LaneValue, LetsIn}
 use Rattle.cn_floor.specs.Named.{IsNamed}
 use Rattle.cn_floor.specs.Views.{after_enter, after_step, on_in}
-use Rattle.cn_walk.specs.Walks.{WalksAll, Walks, inside_by, steps_left}
+use Rattle.cn_walk.specs.Walks.{WalksAll, Walks, inside_by}
 use Rattle.cn_floor.proofs.CallerLemmas.{Lands, at-none, at-one, inside-yard, none-on, ones, weigh-come, weigh-leave, weigh-pass, weighed-went}
+
+-- a bound on the steps that are left to those inside: each step goes to a greater wire, or out
+abbrev pub steps_left : View → ℕ
+steps_left v = sum_below (length v.tokens) (λ u. (length v.tokens - u) * on_in u v)
 
 -- nothing happens
 pub stays : (a : LaneValue) → Walks a a []

@@ -1,5 +1,5 @@
 -- What a walk of clients makes of a lane.
-use Rattle.std.specs.Prelude.{◌≡◌, ℕ, ◌+◌, ◌-◌, ◌*◌, ◌≤◌, ◌++◌, ◌==◌, List, count_by, length, map, sum_by}
+use Rattle.std.specs.Prelude.{◌≡◌, ℕ, ◌+◌, ◌-◌, ◌≤◌, ◌++◌, ◌==◌, List, count_by, length, map, sum_by}
 use Rattle.std.specs.List.{range_with_len}
 use Rattle.cn_spec.specs.Step.{IsEachBelow}
 use Rattle.cn_spec.specs.Sums.{sum_below}
@@ -8,7 +8,6 @@ use Rattle.cn_yard.specs.Lists.{on, tokens_in}
 use Rattle.cn_floor.specs.declared.view.Grant.{Grant}
 use Rattle.cn_floor.specs.declared.view.View.{View}
 use Rattle.cn_floor.specs.Lane.{LaneValue}
-use Rattle.cn_floor.specs.Views.{on_in}
 
 -- grants for these clients: as many as they are, and to each client as often as it is among them
 pub record AreFor (clients : List Client) (grants : List Grant) : Type 0 where
@@ -51,10 +50,6 @@ pub record IsSole (lane : LaneValue) : Type 0 where
 -- those inside, each weighed by its client
 abbrev pub inside_by : (ℕ → ℕ) → View → ℕ
 inside_by f v = sum_below (length v.tokens) (λ u. sum_by (λ e. f e.1) (on v.tokens u))
-
--- a bound on the steps that are left to those inside: each step goes to a greater wire, or out
-abbrev pub steps_left : View → ℕ
-steps_left v = sum_below (length v.tokens) (λ u. (length v.tokens - u) * on_in u v)
 
 -- these clients came in, and some of those inside went out: however clients are weighed, nobody is lost or made
 pub record Walks (old new : LaneValue) (clients : List Client) : Type 0 where

@@ -1,7 +1,7 @@
 -- The only token of a view, on its way.
-use Rattle.std.proofs.Common.{◌≡◌, ◌≢◌, ℕ, ◌+◌, ◌*◌, ◌%◌, ◌<◌, ◌≤◌, inl, inr, cond, eqb, true, false, Bool, List, [], ◌∷◌, ◌++◌, length, sum_by, refl, sym, ap, ◌∙◌, subst, arith}
+use Rattle.std.proofs.Common.{◌≡◌, ◌≢◌, ℕ, ◌%◌, ◌<◌, ◌≤◌, inl, inr, cond, eqb, true, false, Bool, List, [], ◌∷◌, ◌++◌, length, sum_by, refl, sym, ap, ◌∙◌, subst, arith}
 use Rattle.std.specs.Prelude.{nat_eq}
-use Rattle.cn_floor.proofs.Common.{Balancer, IsAlone, IsLetBy, IsThere, IsWellFormed, LeadsOn, Lists, Stands, Start, Table, View, after_step, cases_eq, end_of, eq-eqb, last_on, length-map-range_with_len, ne_eqb, on, output_wire, sum-below-one, sum-below-same, times_in, when, without}
+use Rattle.cn_floor.proofs.Common.{Balancer, IsAlone, IsLetBy, IsThere, IsWellFormed, Lists, Stands, Start, Table, View, after_step, cases_eq, end_of, eq-eqb, last_on, length-map-range_with_len, ne_eqb, on, output_wire, sum-below-one, sum-below-same, times_in, when, without}
 use Rattle.std.proofs.lemmas.Nat.{mod_below}
 use Rattle.cn_yard.proofs.CallerLemmas.{first-there, last_on-sum}
 use Rattle.cn_floor.specs.Alone.{OnlyPassed, PassesOn}
@@ -61,11 +61,6 @@ module _ (start : Start) (formed : IsWellFormed start.network.table) (v : View) 
       let two = mod_below n 2 (omega arith) in
       let there : b < t.balancers = subst (Stands t) ends (formed.stands wire low) in
       omega (arith, same, there, formed.wires, wires)
-
-  pub onward : wire < to
-  onward =
-      let forward : wire < t.entries + 2 * b = subst (LeadsOn t wire) ends (formed.forward wire low) in
-      omega (arith, same, forward)
 
   pub alone-on : IsAlone (after_step token client (Balancer b) n v).tokens token client to
   alone-on =

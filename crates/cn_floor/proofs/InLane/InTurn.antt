@@ -1,8 +1,8 @@
 -- Wires are swept one after the other.
-use Rattle.std.proofs.Common.{◌≡◌, ℕ, ◌+◌, ◌<◌, List, [], ◌∷◌, ◌++◌, length, refl, sym, ap, ◌∙◌, subst, arith}
-use Rattle.cn_floor.proofs.Common.{AreLetBy, End, IsAtomicStep, Start, View, after_sweep, end_of, on}
+use Rattle.std.proofs.Common.{◌≡◌, ℕ, ◌+◌, List, [], ◌∷◌, ◌++◌, length, refl, sym, ap, ◌∙◌, subst, arith}
+use Rattle.cn_floor.proofs.Common.{AreLetBy, End, IsAtomicStep, Start, View, after_sweep, end_of}
 use Rattle.cn_floor.specs.EntersAll.{ComeTogether, EnterInTurn, after_enter_all}
-use Rattle.cn_floor.specs.Listed.{WalkTogether}
+use Rattle.cn_floor.specs.Listed.{GoTogether, WalkTogether}
 use Rattle.cn_floor.specs.Sweeps.{SweptBy}
 
 -- some wires were swept
@@ -15,17 +15,17 @@ unfolding SweptBy
 swept-none start v = ([], refl)
 
 -- one wire first, on which some stand, and then others
-pub swept-first : (start : Start) (wire : ℕ) (end : End) (n : ℕ) (v w x : View) → end_of start.network.table wire ≡ end
-    → w ≡ after_sweep wire end n v
-    → 0 < length (on v.tokens wire) → AreLetBy start v w wire end n → IsSwept start w x → IsSwept start v x
+pub swept-first : {start : Start} {wire : ℕ} {end : End} {n : ℕ} {v w : View} (x : View) → GoTogether start wire end n v w
+    → IsSwept start w x → IsSwept start v x
 unfolding SweptBy
-swept-first start wire end n v w x ends went some by (wires, later) =
-    let is : w ≡ after_sweep wire (end_of start.network.table wire) n v = went ∙ ap (λ (e : End). after_sweep wire e n v) (sym ends) in (
+swept-first {start} {wire} {end} {n} {v} {w} x go (wires, later) =
+    let is : w ≡ after_sweep wire (end_of start.network.table wire) n v =
+    go.went ∙ ap (λ (e : End). after_sweep wire e n v) (sym go.ends) in (
       wire ∷ wires,
       (
         n,
-        some,
-        subst (λ (z : View × End). AreLetBy start v z.0 wire z.1 n) (λ i. (is i, (sym ends) i)) by,
+        go.some,
+        subst (λ (z : View × End). AreLetBy start v z.0 wire z.1 n) (λ i. (is i, (sym go.ends) i)) go.by,
         subst (λ (y : View). SweptBy start wires y x) is later,
       ),
     )

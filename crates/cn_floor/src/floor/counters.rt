@@ -101,6 +101,13 @@ impl Counters {
         Ok((counters, seat))
     }
 
+    /// How far apart neighbours of the words lie.
+    pub(super) fn stride(&self) -> usize
+        ensures { result ≡ self.now.start.stride }
+    {
+        self.stride
+    }
+
     /// The word of an end.
     fn word_of(&self, end: End) -> usize
         requires { Stands self.now.start.network.table end }
@@ -165,8 +172,9 @@ impl Counters {
             .fetch_add::<EnterAllPlay<T>>(seat, place_of(self.stride, 1 + entry as usize), count);
     }
 
-    /// The token goes by the end of its wire, in one atomic step: an add on the end's word, which gives its number. The
-    /// token, the client and the wire are only for the proof.
+    /// The token goes by the end of its wire, in one atomic step: an add on the end's word, which gives its number. How
+    /// far apart neighbours lie is said by the caller, who may know a constant. The token, the client and the wire are
+    /// only for the proof.
     pub(super) fn step<T: StepOf>(
         &self,
         seat: &mut Seat<(), View>,
@@ -174,6 +182,7 @@ impl Counters {
         _client: u64,
         _wire: u32,
         end: End,
+        stride: usize,
     ) -> u64
         requires own { (seat.old.table_id ≡ self.now.table)
             × (seat.old.me.0.start ≡ self.now.start) }
@@ -184,10 +193,13 @@ impl Counters {
         requires wires { length seat.old.me.0.tokens ≡ length self.now.start.network.table.ends }
         requires ends { end_of self.now.start.network.table _wire ≡ end }
         requires stands { Stands self.now.start.network.table end }
+        requires stride { stride ≡ self.now.start.stride }
         ensures seat { (seat.new.table_id ≡ seat.old.table_id) × (seat.new.me.1 ≡ []) }
         ensures went { GoesOn T.going seat.old.me.0 result seat.new.me.0 }
     {
-        let place = place_of(self.stride, self.word_of(end));
+        // Opens what the words keep: how far apart they lie at most.
+        let _ = &self.table;
+        let place = place_of(stride, self.word_of(end));
         self.table.shared.fetch_add::<StepPlay<T>>(seat, place, 1)
     }
 

@@ -1,102 +1,81 @@
 //! The clients of a list, named by one call: all who stand on a wire pass its end together, and where they stand is in
 //! locals.
 
-ghost use Rattle.std.specs.Prelude.{◌≡◌, ℕ, ◌+◌, ◌<◌, ◌≤◌, ◌↔◌, ◌^◌, ◌++◌, [], List, length, vec_capacity, IsErrOf, OnErr, OnOk};
-ghost use Rattle.cn_spec.specs.Step as step;
-ghost use Rattle.cn_spec.specs.declared.limits.TheConstants.{MOST_ROOM};
-ghost use Rattle.cn_wiring.specs.Table.{Stands, end_of};
-ghost use Rattle.cn_yard.specs.Lists.{on, times_in, tokens_in};
+ghost use Rattle.std.specs.Prelude.{◌≡◌, ℕ, ◌-◌, ◌/◌, ◌<◌, ◌≤◌, ◌↔◌, [], List, length, vec_capacity, IsErrOf, OnErr, OnOk};
+ghost use Rattle.cn_yard.specs.Deals.{every_second};
+ghost use Rattle.cn_yard.specs.Lists.{on, tokens_in};
 ghost use Rattle.cn_floor.specs.EntersAll.{ComeTogether};
-ghost use Rattle.cn_floor.specs.Listed.{AreDealt, AreNamed, CameIn, HaveLeft, Stand, placed};
-ghost use Rattle.cn_floor.specs.Sweeps.{AreLetBy, SweptBy, after_sweep, grants_out};
+ghost use Rattle.cn_floor.specs.Listed.{AreNamed, CameIn, ListFrame, Stand, frame_of};
 
 use super::Floor;
 use super::lane::{Lane, make_way};
+use super::passing::Party;
 use crate::fault::LaneFault;
 use crate::view::{Grant, View};
 use atomic_table::Seat;
-use cn_balancer::output_of;
 use cn_exit::name_of;
-use cn_wiring::{Counting, End};
 use std::marker::Brand;
 
-/// Those of a list's clients who stand on one wire, first to last: as many as `count`, at every `stride`-th place from
-/// `first` on.
+/// Where those of a list's clients who stand on one wire stand in the list, first to last: at every `stride`-th place
+/// from `first` on.
 #[derive(Clone, Copy)]
-struct Group {
+struct Places {
     first: usize,
     stride: usize,
-    count: usize,
 }
 
-impl Group {
-    /// Every second of them, from the first on, and the others. The list is only for the proof.
-    fn halves(self, _clients: &[u64]) -> (Group, Group)
-        requires { (tokens : List (ℕ × ℕ)) × Stand _clients.now self tokens }
-        ensures { AreDealt _clients.now self 0 result.0 result.1 }
+/// The grants of a lane, and the list of clients who get more.
+#[derive(Drop)]
+struct Granting<'g> {
+    grants: &'g mut Vec<Grant>,
+    clients: &'g [u64],
+}
+
+/// They are granted their names.
+impl<'g> Party<Granting<'g>> for Places {
+    ghost Frame = { ListFrame };
+
+    ghost kept = { frame_of };
+
+    ghost room = { λ notes. vec_capacity notes.grants.now - length notes.grants.now.items };
+
+    ghost Are = { Stand };
+
+    ghost Noted = { λ before now notes. notes.grants.now.items ≡ now };
+
+    fn halves(self, count: usize) -> (Self, Self)
+        requires some { 2 ≤ count }
+        requires are { (frame : ListFrame) × (tokens : List (ℕ × ℕ)) × Stand frame self count tokens }
+        ensures { (frame : ListFrame) (tokens : List (ℕ × ℕ)) → Stand frame self count tokens
+            → Stand frame result.0 (count - count / 2) (every_second 0 tokens)
+            × Stand frame result.1 (count / 2) (every_second 1 tokens) }
     {
-        let half = self.count / 2;
-        if half == 0 {
-            let nobody = Group { count: 0, ..self };
-            return (self, nobody);
-        }
         let stride = 2 * self.stride;
-        let even = Group {
-            first: self.first,
-            stride,
-            count: self.count - half,
-        };
-        let odd = Group {
-            first: self.first + self.stride,
-            stride,
-            count: half,
-        };
-        (even, odd)
+        let even = Places { stride, ..self };
+        let first = self.first + self.stride;
+        (even, Places { first, stride })
     }
 
-    /// Those who go on by output 0 of a balancer, and by output 1, of which the first goes by this output.
-    fn deal(self, output: u32, clients: &[u64]) -> (Group, Group)
-        requires output { output < 2 }
-        requires group { (tokens : List (ℕ × ℕ)) × Stand clients.now self tokens }
-        ensures { AreDealt clients.now self output result.0 result.1 }
-    {
-        let (even, odd) = self.halves(clients);
-        if output == 0 {
-            (even, odd)
-        } else {
-            (odd, even)
+    fn leave(
+        self,
+        notes: &mut Granting<'g>,
+        count: usize,
+        exit: u32,
+        first: u64,
+        width: u32,
+        base: u64,
+    ) {
+        let clients = notes.clients;
+        let grants = &mut *notes.grants;
+        for number in 0..count {
+            let visit = first + number as u64;
+            grants.push_reserved(Grant {
+                client: clients[self.first + self.stride * number],
+                exit,
+                visit,
+                name: name_of(width, exit, visit) - base,
+            });
         }
-    }
-}
-
-/// Appends a grant for each of a group, who leave by an exit with the visits from `first` on. From each name the number
-/// of clients is taken that came before the floor began.
-fn grant_all(
-    grants: &mut Vec<Grant>,
-    clients: &[u64],
-    group: Group,
-    exit: u32,
-    first: u64,
-    width: u32,
-    base: u64,
-)
-    requires group { (tokens : List (ℕ × ℕ)) × Stand clients.now group tokens }
-    requires room { length grants.old.items + group.count ≤ vec_capacity grants.old }
-    requires exit { exit < width }
-    requires low { base ≤ step.name_of width exit first }
-    requires high { step.name_of width exit (first + group.count) < 2 ^ 64 }
-    ensures granted { grants.new.items ≡ grants.old.items
-        ++ grants_out width base exit first (placed clients.now group.first group.stride group.count) }
-    ensures capacity { vec_capacity grants.new ≡ vec_capacity grants.old }
-{
-    for number in 0..group.count {
-        let visit = first + number as u64;
-        grants.push_reserved(Grant {
-            client: clients[group.first + group.stride * number],
-            exit,
-            visit,
-            name: name_of(width, exit, visit) - base,
-        });
     }
 }
 
@@ -134,87 +113,6 @@ impl<'a> Floor<'a> {
         self.enter_list(seat, clients, entry);
     }
 
-    /// Lets all tokens of a wire, as many as `tokens`, go by its end in one atomic step: the end, and the number of the
-    /// first.
-    pub(super) fn let_by(
-        &self,
-        network: &Counting,
-        seat: &mut Seat<(), View>,
-        wire: u32,
-        tokens: u64,
-    ) -> (End, u64)
-        requires network { network.now ≡ self.now.start.network }
-        requires own { (seat.old.table_id ≡ self.now.table)
-            × (seat.old.me.0.start ≡ self.now.start) }
-        requires slots { (seat.old.me.1 ≡ []) × (seat.old.me.0.loads ≡ []) }
-        requires wires { length seat.old.me.0.tokens ≡ length self.now.start.network.table.ends }
-        requires wire { wire < length self.now.start.network.table.ends }
-        requires once { (token : ℕ) → times_in seat.old.me.0.tokens token ≤ 1 }
-        requires tokens { length (on seat.old.me.0.tokens wire) ≡ tokens }
-        ensures seat { (seat.new.table_id ≡ seat.old.table_id) × (seat.new.me.1 ≡ []) }
-        ensures end { end_of self.now.start.network.table wire ≡ result.0 }
-        ensures stands { Stands self.now.start.network.table result.0 }
-        ensures went { seat.new.me.0 ≡ after_sweep wire result.0 result.1 seat.old.me.0 }
-        ensures by { AreLetBy self.now.start seat.old.me.0 seat.new.me.0 wire result.0 result.1 }
-    {
-        self.start_laws();
-        let end = network.end(wire);
-        let number = self.counters.sweep::<Brand>(seat, wire, end, tokens);
-        (end, number)
-    }
-
-    /// Lets a group that stands on a wire pass its end together, and then each half, until all have left. Nobody stands
-    /// on a greater wire: those who go on to the greater of two wires leave first.
-    fn pass_all(
-        &self,
-        network: &Counting,
-        seat: &mut Seat<(), View>,
-        grants: &mut Vec<Grant>,
-        clients: &[u64],
-        group: &Group,
-        wire: u32,
-    )
-        requires own { (seat.old.table_id ≡ self.now.table)
-            × (seat.old.me.0.start ≡ self.now.start) }
-        requires slots { (seat.old.me.1 ≡ []) × (seat.old.me.0.loads ≡ []) }
-        requires wires { length seat.old.me.0.tokens ≡ length self.now.start.network.table.ends }
-        requires wire { wire < length self.now.start.network.table.ends }
-        requires once { (token : ℕ) → times_in seat.old.me.0.tokens token ≤ 1 }
-        requires network { network.now ≡ self.now.start.network }
-        requires group { Stand clients.now group.now (on seat.old.me.0.tokens wire) }
-        requires above { (u : ℕ) → wire < u → on seat.old.me.0.tokens u ≡ [] }
-        requires room { length grants.old.items + group.now.count ≤ vec_capacity grants.old }
-        requires grants { grants.old.items ≡ seat.old.me.0.grants }
-        ensures seat { (seat.new.table_id ≡ seat.old.table_id) × (seat.new.me.1 ≡ []) }
-        ensures swept { (wires : List ℕ) × SweptBy self.now.start wires seat.old.me.0 seat.new.me.0 }
-        ensures left { HaveLeft seat.old.me.0 seat.new.me.0 wire (on seat.old.me.0.tokens wire) }
-        ensures once { (token : ℕ) → times_in seat.new.me.0.tokens token ≤ 1 }
-        ensures grants { grants.new.items ≡ seat.new.me.0.grants }
-        ensures capacity { vec_capacity grants.new ≡ vec_capacity grants.old }
-    {
-        if group.count == 0 {
-            return;
-        }
-        self.start_laws();
-        let (end, number) = self.let_by(network, seat, wire, group.count as u64);
-        match end {
-            End::Balancer(balancer) => {
-                let out = network.entries() + 2 * balancer;
-                let output = output_of(number);
-                if group.count == 1 {
-                    return self.pass_all(network, seat, grants, clients, group, out + output);
-                }
-                let (upper, lower) = group.deal(output, clients);
-                self.pass_all(network, seat, grants, clients, &lower, out + 1);
-                self.pass_all(network, seat, grants, clients, &upper, out);
-            }
-            End::Exit(exit) => {
-                let width = network.width();
-                grant_all(grants, clients, *group, exit, number, width, self.base);
-            }
-        }
-    }
-
     /// Lets the clients of a list in by one entry and walks them out, all who stand on a wire by one atomic step: a
     /// step by which they come in, and one for each sweep of a wire, on which some of them stand. Nobody of the lane is
     /// inside. Where they stand is in locals, and not in the lane's yard. It waits for nobody, and takes memory only if
@@ -249,17 +147,20 @@ impl<'a> Floor<'a> {
         };
         let entry = entry as u32;
         self.come_in(&mut lane.seat, clients, entry);
-        let all = Group {
+        let all = Places {
             first: 0,
             stride: 1,
-            count: clients.len(),
+        };
+        let mut notes = Granting {
+            grants: &mut lane.grants,
+            clients,
         };
         self.pass_all(
             self.network(),
             &mut lane.seat,
-            &mut lane.grants,
-            clients,
-            &all,
+            &mut notes,
+            all,
+            clients.len(),
             entry,
         );
         lane.quota -= count;

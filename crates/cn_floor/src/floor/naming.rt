@@ -1,7 +1,7 @@
 //! One client is walked by one call, with its wire in a local.
 
-ghost use Rattle.std.specs.Prelude.{◌≡◌, ℕ, ◌<◌, ◌≤◌, ◌↔◌, [], List, length, replicate, IfOk, IsErrOf, OnErr};
-ghost use Rattle.cn_wiring.specs.declared.end.End.TheVariants.{Exit};
+ghost use Rattle.std.specs.Prelude.{◌≡◌, ℕ, ◌<◌, ◌≤◌, ◌⊎◌, ◌↔◌, [], List, length, replicate, IfOk, IsErrOf, OnErr};
+ghost use Rattle.cn_wiring.specs.declared.end.End.TheVariants.{Balancer, Exit};
 ghost use Rattle.cn_wiring.specs.Table.{end_of};
 ghost use Rattle.cn_yard.specs.Lists.{on, tokens_in};
 ghost use Rattle.cn_floor.specs.Alone.{IsAlone, OnlyPassed, PassesOn};
@@ -16,7 +16,7 @@ use atomic_table::Seat;
 use cn_balancer::output_of;
 use cn_exit::name_of;
 use cn_ledger::Client;
-use cn_wiring::End;
+use cn_wiring::{Counting, End};
 use cn_yard::Token;
 use std::marker::Brand;
 use std::sync::Wait;
@@ -74,7 +74,7 @@ impl<'a> Floor<'a> {
         let Ok(()) = make_way(&mut lane.grants, 1, &lane.yard, lane.room) else {
             return Err(LaneFault::Memory);
         };
-        let grant = self.grant_one(&mut lane.seat, client, entry as u32, pause);
+        let grant = self.grant_one(network, &mut lane.seat, client, entry as u32, pause);
         lane.grants.push_reserved(grant);
         lane.quota -= 1;
         lane.room = lane.room.saturating_sub(1);
@@ -86,11 +86,13 @@ impl<'a> Floor<'a> {
     #[inline(always)]
     pub(super) fn grant_one<P: Pause>(
         &self,
+        network: &Counting,
         seat: &mut Seat<(), View>,
         client: u64,
         entry: u32,
         pause: &P,
     ) -> Grant
+        requires network { network.now ≡ self.now.start.network }
         requires own { (seat.old.table_id ≡ self.now.table)
             × (seat.old.me.0.start ≡ self.now.start) }
         requires slots { (seat.old.me.1 ≡ []) × (seat.old.me.0.loads ≡ []) }
@@ -103,25 +105,27 @@ impl<'a> Floor<'a> {
         ensures gone { seat.new.me.0.tokens ≡ replicate (length seat.old.me.0.tokens) [] }
     {
         self.start_laws();
-        let (exit, visit) = self.walk_through(seat, client, entry, pause);
+        let (exit, visit) = self.walk_through(network, seat, client, entry, pause);
         Grant {
             client,
             exit,
             visit,
-            name: name_of(self.network().width(), exit, visit) - self.base,
+            name: name_of(network.width(), exit, visit) - self.base,
         }
     }
 
     /// Lets a client in by an entry and walks it out, by a view with nobody inside: the exit by which it left, and its
-    /// visit.
+    /// visit. Words that lie side by side have a walk of their own, in which no place is multiplied by a stride.
     #[inline(always)]
     fn walk_through<P: Pause>(
         &self,
+        network: &Counting,
         seat: &mut Seat<(), View>,
         client: u64,
         entry: u32,
         pause: &P,
     ) -> (u32, u64)
+        requires network { network.now ≡ self.now.start.network }
         requires own { (seat.old.table_id ≡ self.now.table)
             × (seat.old.me.0.start ≡ self.now.start) }
         requires slots { (seat.old.me.1 ≡ []) × (seat.old.me.0.loads ≡ []) }
@@ -134,54 +138,104 @@ impl<'a> Floor<'a> {
         ensures gone { seat.new.me.0.tokens ≡ replicate (length seat.old.me.0.tokens) [] }
         ensures exit { result.0 < self.now.start.network.table.width }
     {
-        let network = self.network();
-        let token = Token::first();
-        pause.before(Moment::Enter);
-        self.counters.enter::<Brand>(seat, token, client, entry);
-        let wire = self.pass_on(seat, token, client, entry, pause);
-        match network.end(wire) {
-            End::Balancer(_) => unreachable!(),
-            End::Exit(exit) => {
-                pause.before(Moment::Leave);
-                let end = End::Exit(exit);
-                let visit = self.counters.step::<Brand>(seat, token, client, wire, end);
-                (exit, visit)
-            }
+        let stride = self.counters.stride();
+        if stride == 1 {
+            self.walk_by(network, seat, client, entry, 1, pause)
+        } else {
+            self.walk_by(network, seat, client, entry, stride, pause)
         }
     }
 
-    /// Lets a token that is alone in a view pass one balancer after the other, until its wire ends at an exit.
-    /// Gives this wire.
-    fn pass_on<P: Pause>(
+    /// The same, by how far apart the words lie. It is made part of its caller, and so is what it calls: then each of
+    /// its steps knows a stride that is written there as a constant.
+    #[inline(always)]
+    fn walk_by<P: Pause>(
         &self,
+        network: &Counting,
         seat: &mut Seat<(), View>,
-        token: Token,
         client: u64,
-        wire: u32,
+        entry: u32,
+        stride: usize,
         pause: &P,
-    ) -> u32
+    ) -> (u32, u64)
+        requires network { network.now ≡ self.now.start.network }
         requires own { (seat.old.table_id ≡ self.now.table)
             × (seat.old.me.0.start ≡ self.now.start) }
         requires slots { (seat.old.me.1 ≡ []) × (seat.old.me.0.loads ≡ []) }
         requires wires { length seat.old.me.0.tokens ≡ length self.now.start.network.table.ends }
-        requires alone { IsAlone seat.old.me.0.tokens token client wire }
+        requires out { (wire : ℕ) → on seat.old.me.0.tokens wire ≡ [] }
+        requires entry { entry < self.now.start.network.table.entries }
+        requires quota { 0 < seat.old.me.0.quota }
+        requires stride { stride ≡ self.now.start.stride }
+        ensures seat { (seat.new.table_id ≡ seat.old.table_id) × (seat.new.me.1 ≡ []) }
+        ensures walked { WalksThrough self.now.start client entry result.0 result.1 seat.old.me.0 seat.new.me.0 }
+        ensures gone { seat.new.me.0.tokens ≡ replicate (length seat.old.me.0.tokens) [] }
+        ensures exit { result.0 < self.now.start.network.table.width }
+    {
+        self.start_laws();
+        let token = Token::first();
+        pause.before(Moment::Enter);
+        self.counters.enter::<Brand>(seat, token, client, entry);
+        let (wire, exit) = self.pass_on(network, seat, token, client, entry, stride, pause);
+        pause.before(Moment::Leave);
+        let end = End::Exit(exit);
+        let visit = self
+            .counters
+            .step::<Brand>(seat, token, client, wire, end, stride);
+        (exit, visit)
+    }
+
+    /// Lets a token that stands on an entry, alone in a view, pass one balancer after the other, until its wire ends at
+    /// an exit. Returns this wire and the exit. It passes as many balancers as the network is deep, so it does not test
+    /// whether a wire ends at one.
+    #[inline(always)]
+    fn pass_on<P: Pause>(
+        &self,
+        network: &Counting,
+        seat: &mut Seat<(), View>,
+        token: Token,
+        client: u64,
+        entry: u32,
+        stride: usize,
+        pause: &P,
+    ) -> (u32, u32)
+        requires network { network.now ≡ self.now.start.network }
+        requires own { (seat.old.table_id ≡ self.now.table)
+            × (seat.old.me.0.start ≡ self.now.start) }
+        requires slots { (seat.old.me.1 ≡ []) × (seat.old.me.0.loads ≡ []) }
+        requires wires { length seat.old.me.0.tokens ≡ length self.now.start.network.table.ends }
+        requires entry { entry < self.now.start.network.table.entries }
+        requires alone { IsAlone seat.old.me.0.tokens token client entry }
+        requires stride { stride ≡ self.now.start.stride }
         ensures seat { (seat.new.table_id ≡ seat.old.table_id) × (seat.new.me.1 ≡ []) }
         ensures passed { OnlyPassed seat.old.me.0 seat.new.me.0 }
-        ensures alone { IsAlone seat.new.me.0.tokens token client result }
-        ensures onward { wire ≤ result }
+        ensures alone { IsAlone seat.new.me.0.tokens token client result.0 }
         ensures by { (numbers : List ℕ)
-            × PassesOn self.now.start token client numbers wire seat.old.me.0 result seat.new.me.0 }
-        ensures exit { (i : ℕ) × (end_of self.now.start.network.table result ≡ Exit i) }
+            × PassesOn self.now.start token client numbers entry seat.old.me.0 result.0 seat.new.me.0 }
+        ensures exit { end_of self.now.start.network.table result.0 ≡ Exit result.1 }
+        ensures low { result.1 < self.now.start.network.table.width }
     {
-        let network = self.network();
-        let mut at = wire;
-        while let End::Balancer(balancer) = network.end(at) {
+        let mut at = entry;
+        let mut ends_at = number_of(network.end(at));
+        for passed in 0..network.depth() {
             pause.before(Moment::Pass);
-            let end = End::Balancer(balancer);
-            let number = self.counters.step::<Brand>(seat, token, client, at, end);
-            at = network.entries() + 2 * balancer + output_of(number);
+            let end = End::Balancer(ends_at);
+            let number = self
+                .counters
+                .step::<Brand>(seat, token, client, at, end, stride);
+            at = network.entries() + 2 * ends_at + output_of(number);
+            ends_at = number_of(network.end(at));
         }
-        at
+        (at, ends_at)
+    }
+}
+
+/// The number of the balancer or the exit that an end is. Who knows which of the two it is reads no more than this.
+fn number_of(end: End) -> u32
+    ensures { (end ≡ Balancer result) ⊎ (end ≡ Exit result) }
+{
+    match end {
+        End::Balancer(number) | End::Exit(number) => number,
     }
 }
 

@@ -66,9 +66,10 @@ impl<'a> Floor<'a> {
         let wire = lane.yard.wire_of(token);
         let network = self.network();
         let end = network.end(wire);
+        let stride = self.counters.stride();
         let number = self
             .counters
-            .step::<Brand>(&mut lane.seat, token, client, wire, end);
+            .step::<Brand>(&mut lane.seat, token, client, wire, end, stride);
         match end {
             End::Balancer(balancer) => {
                 let wire = network.entries() + 2 * balancer + output_of(number);

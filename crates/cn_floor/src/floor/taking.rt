@@ -1,25 +1,64 @@
 //! Names that are taken, of which no list is kept.
 
-ghost use Rattle.std.specs.Prelude.{◌≡◌, ℕ, ◌+◌, ◌<◌, ◌≤◌, ◌↔◌, ◌^◌, ◌++◌, [], List, length, map, IfOk, IsErrOf, OnErr, OnOk};
-ghost use Rattle.cn_spec.specs.Step as step;
-ghost use Rattle.cn_yard.specs.Lists.{on, times_in};
-ghost use Rattle.cn_floor.specs.Listed.{HaveLeft};
+ghost use Rattle.std.specs.Prelude.{◌≡◌, ℕ, ◌-◌, ◌<◌, ◌≤◌, ◌↔◌, List, length, IfOk, IsErrOf, OnErr, OnOk};
 ghost use Rattle.cn_floor.specs.Steps.{IsAnswer, StoodInState};
-ghost use Rattle.cn_floor.specs.Sweeps.{SweptBy, grants_out};
-ghost use Rattle.cn_floor.specs.Taking.{AreTaken, IsTaken, empty_taker};
+ghost use Rattle.cn_floor.specs.Taking.{AreTaken, AreWritten, IsTaken, empty_taker};
 ghost use Rattle.cn_floor.specs.Views.{after_entered, after_join, after_look, after_split, split_off};
-ghost use Rattle.cn_floor.specs.declared.view.Grant.{Grant};
 
 use super::Floor;
+use super::passing::Party;
 use super::taker::Taker;
 use crate::fault::{LaneFault, SplitFault};
 use crate::gate::NoPause;
-use crate::view::View;
-use atomic_table::Seat;
-use cn_balancer::output_of;
 use cn_exit::name_of;
-use cn_wiring::{Counting, End};
 use std::marker::Brand;
+
+/// Tokens of whatever clients.
+#[derive(Clone, Copy)]
+struct Anyone;
+
+/// A list of names, of which so many are written.
+#[derive(Drop)]
+struct Names<'n> {
+    names: &'n mut [u64],
+    at: usize,
+}
+
+/// Their names are written in the order in which they leave.
+impl<'n> Party<Names<'n>> for Anyone {
+    ghost Frame = { ℕ };
+
+    ghost kept = { λ notes. notes.names.ghost_name };
+
+    ghost room = { λ notes. length notes.names.now - notes.at };
+
+    ghost Are = { λ _ _ _ _. Unit {0} };
+
+    ghost Noted = { AreWritten };
+
+    fn halves(self, _count: usize) -> (Self, Self)
+        ensures { (frame : ℕ) (tokens : List (ℕ × ℕ)) → Unit {0} → Unit {0} × Unit {0} }
+    {
+        (self, self)
+    }
+
+    fn leave(
+        self,
+        notes: &mut Names<'n>,
+        count: usize,
+        exit: u32,
+        first: u64,
+        width: u32,
+        base: u64,
+    ) {
+        let at = notes.at;
+        let names = &mut *notes.names;
+        for place in 0..count {
+            names[at + place] = name_of(width, exit, first + place as u64) - base;
+        }
+        notes.at = at + count;
+    }
+}
 
 impl<'a> Floor<'a> {
     /// Takes a name: a client without an identity comes in by an entry and walks out, in one atomic step for the entry,
@@ -37,13 +76,14 @@ impl<'a> Floor<'a> {
             ↔ ((entry < self.now.start.network.table.entries) × (taker.old.view.quota ≡ 0)) }
         ensures memory { ¬ (IsErrOf result LaneFault.Memory) }
     {
-        if entry >= u64::from(self.network().entries()) {
+        let network = self.network();
+        if entry >= u64::from(network.entries()) {
             return Err(LaneFault::NoSuchEntry);
         }
         if taker.quota == 0 {
             return Err(LaneFault::QuotaSpent);
         }
-        let grant = self.grant_one(&mut taker.seat, 0, entry as u32, &NoPause);
+        let grant = self.grant_one(network, &mut taker.seat, 0, entry as u32, &NoPause);
         taker.quota -= 1;
         taker.taken += 1;
         Ok(grant.name)
@@ -140,73 +180,18 @@ impl<'a> Floor<'a> {
         }
         let entry = entry as u32;
         self.come_in(&mut taker.seat, names, entry);
-        self.pass_names(self.network(), &mut taker.seat, names, entry);
+        let long = names.len();
+        let mut notes = Names { names, at: 0 };
+        self.pass_all(
+            self.network(),
+            &mut taker.seat,
+            &mut notes,
+            Anyone,
+            long,
+            entry,
+        );
         taker.quota -= count;
         taker.taken += count;
         Ok(())
-    }
-
-    /// Lets all tokens of a wire, one for each place of the list, pass its end together, and then each half, until all
-    /// have left, and writes their names to the list in the order in which they leave. Nobody stands on a greater wire:
-    /// those who go on to the greater of two wires leave first.
-    fn pass_names(
-        &self,
-        network: &Counting,
-        seat: &mut Seat<(), View>,
-        names: &mut [u64],
-        wire: u32,
-    )
-        requires own { (seat.old.table_id ≡ self.now.table)
-            × (seat.old.me.0.start ≡ self.now.start) }
-        requires slots { (seat.old.me.1 ≡ []) × (seat.old.me.0.loads ≡ []) }
-        requires wires { length seat.old.me.0.tokens ≡ length self.now.start.network.table.ends }
-        requires wire { wire < length self.now.start.network.table.ends }
-        requires once { (token : ℕ) → times_in seat.old.me.0.tokens token ≤ 1 }
-        requires network { network.now ≡ self.now.start.network }
-        requires many { length (on seat.old.me.0.tokens wire) ≡ length names.old }
-        requires above { (u : ℕ) → wire < u → on seat.old.me.0.tokens u ≡ [] }
-        ensures seat { (seat.new.table_id ≡ seat.old.table_id) × (seat.new.me.1 ≡ []) }
-        ensures swept { (wires : List ℕ) × SweptBy self.now.start wires seat.old.me.0 seat.new.me.0 }
-        ensures left { HaveLeft seat.old.me.0 seat.new.me.0 wire (on seat.old.me.0.tokens wire) }
-        ensures once { (token : ℕ) → times_in seat.new.me.0.tokens token ≤ 1 }
-        ensures many { length names.new ≡ length names.old }
-        ensures names { (more : List Grant) × (seat.new.me.0.grants ≡ seat.old.me.0.grants ++ more)
-            × (names.new ≡ map (λ g. g.name) more) }
-    {
-        let count = names.len();
-        if count == 0 {
-            return;
-        }
-        self.start_laws();
-        let (end, number) = self.let_by(network, seat, wire, count as u64);
-        match end {
-            End::Balancer(balancer) => {
-                let out = network.entries() + 2 * balancer;
-                let output = output_of(number);
-                if count == 1 {
-                    return self.pass_names(network, seat, names, out + output);
-                }
-                let lower = (count + output as usize) / 2;
-                let (first, others) = names.split_at_mut(lower);
-                self.pass_names(network, seat, first, out + 1);
-                self.pass_names(network, seat, others, out);
-            }
-            End::Exit(exit) => write_names(names, network.width(), exit, number, self.base),
-        }
-    }
-}
-
-/// Writes the names of an exit's visits from `first` on over a list, less the number of clients that came before the
-/// floor began.
-fn write_names(names: &mut [u64], width: u32, exit: u32, first: u64, base: u64)
-    requires exit { exit < width }
-    requires low { base ≤ step.name_of width exit first }
-    requires high { step.name_of width exit (first + length names.old) < 2 ^ 64 }
-    ensures many { length names.new ≡ length names.old }
-    ensures written { (tokens : List (ℕ × ℕ)) → length tokens ≡ length names.old
-        → names.new ≡ map (λ g. g.name) (grants_out width base exit first tokens) }
-{
-    for place in 0..names.len() {
-        names[place] = name_of(width, exit, first + place as u64) - base;
     }
 }

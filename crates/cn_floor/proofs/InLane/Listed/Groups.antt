@@ -6,7 +6,7 @@ use Rattle.cn_floor.proofs.Common.{sum_by-cons}
 use Rattle.cn_yard.specs.Deals.{every_second}
 use Rattle.cn_floor.specs.Listed.{placed}
 
--- ---- groups
+-- ---- parties
 
 -- those at every second place stand at places twice as far apart
 mutual
@@ -28,15 +28,6 @@ mutual
       let many : suc n / 2 ≡ n - n / 2 = omega arith in
       rw many (placed-even clients (first + stride) stride n)
 
--- where there is at most one it is the first
-pub placed-one : (clients : List ℕ) (first stride n : ℕ) → n < 2
-    → (every_second 0 (placed clients first stride n) ≡ placed clients first stride n)
-    × (every_second 1 (placed clients first stride n) ≡ [])
-unfolding placed every_second
-placed-one clients first stride zero few = (refl, refl)
-placed-one clients first stride (suc zero) few = (refl, refl)
-placed-one clients first stride (suc (suc n)) few = absurd (omega (arith, few))
-
 pub placed-many : (clients : List ℕ) (first stride n : ℕ) → length (placed clients first stride n) ≡ n
 unfolding placed
 placed-many clients first stride zero = refl
@@ -56,7 +47,7 @@ placed-more clients first stride (suc n) =
     (placed-more clients (first + stride) stride n
     ∙ ap (λ (k : ℕ). placed clients (first + stride) stride n ++ (k, slice_index clients k) ∷ []) at)
 
--- a part of a group stands in the list
+-- a part of a party stands in the list
 pub within-part : (x s k m long : ℕ) → 2 * k ≤ m → x + s * m < long → x + 2 * s * k < long
 within-part x s k m long less is =
     let same : 2 * s * k ≡ s * (2 * k) = twice s k in
@@ -73,10 +64,10 @@ unfolding every_second
 sum-both f [] = refl
 sum-both f (e ∷ rest) = omega (arith, sum-both f rest, sum_by-cons f e (every_second 1 rest), sum_by-cons f e rest)
 
-length-both : (es : List (ℕ × ℕ)) → length (every_second 0 es) + length (every_second 1 es) ≡ length es
+halves : (es : List (ℕ × ℕ)) → (length (every_second 0 es) ≡ length es - length es / 2) × (length (every_second 1 es) ≡ length es / 2)
 unfolding every_second
-length-both [] = refl
-length-both (e ∷ rest) = omega (arith, length-both rest)
+halves [] = (refl, refl)
+halves (e ∷ rest) = let later = halves rest in (omega (arith, later.0, later.1), omega (arith, later.0, later.1))
 
 pub sum-dealt : (f : ℕ × ℕ → ℕ) (q : ℕ) (es : List (ℕ × ℕ)) → q < 2
     → sum_by f (every_second q es) + sum_by f (every_second (1 - q) es) ≡ sum_by f es
@@ -84,7 +75,9 @@ sum-dealt f zero es low = sum-both f es
 sum-dealt f (suc zero) es low = omega (arith, sum-both f es)
 sum-dealt f (suc (suc q)) es low = absurd (omega (arith, low))
 
-pub length-dealt : (q : ℕ) (es : List (ℕ × ℕ)) → q < 2 → length (every_second q es) + length (every_second (1 - q) es) ≡ length es
-length-dealt zero es low = length-both es
-length-dealt (suc zero) es low = omega (arith, length-both es)
+-- how many go on by each output of a balancer
+pub length-dealt : (q : ℕ) (es : List (ℕ × ℕ)) → q < 2
+    → (length (every_second q es) ≡ length es - (length es + q) / 2) × (length (every_second (1 - q) es) ≡ (length es + q) / 2)
+length-dealt zero es low = let (even, odd) = halves es in (omega (arith, even), omega (arith, odd))
+length-dealt (suc zero) es low = let (even, odd) = halves es in (omega (arith, odd), omega (arith, even))
 length-dealt (suc (suc q)) es low = absurd (omega (arith, low))

@@ -1,4 +1,4 @@
--- A group has left: at once by an exit, or by the two outputs of a balancer.
+-- A party has left: at once by an exit, or by the two outputs of a balancer.
 use Rattle.std.proofs.Common.{◌≡◌, ◌≢◌, ℕ, suc, ◌+◌, ◌-◌, ◌*◌, ◌%◌, ◌<◌, ◌≤◌, ◌==◌, ◌⊎◌, inl, inr, List, [], ◌∷◌, ◌++◌, length, refl, sym, ap, ◌∙◌, subst, arith, cond, append-nil, length-append}
 use Rattle.cn_floor.proofs.Common.{Balancer, Exit, Grant, IsWellFormed, LeadsOn, Stands, Start, StoodInState, Table, View, after_step, after_sweep, append_assoc, cases_eq, cases_lt, end_of, name_of, on, output_wire, sum_by-append, sum_by-cons, times_in, without}
 use Rattle.cn_yard.specs.Deals.{every_second}
@@ -28,7 +28,7 @@ grants-out width less i n (e ∷ rest) =
       );
     }
 
--- ---- a group that left
+-- ---- a party that left
 
 -- nobody stood there
 pub nobody-left : (v : View) (wire : ℕ) → on v.tokens wire ≡ [] → HaveLeft v v wire (on v.tokens wire)
@@ -105,7 +105,7 @@ module _ (start : Start) (wire i : ℕ) (formed : IsWellFormed start.network.tab
 theirs-both : (q : ℕ) (es : List (ℕ × ℕ)) (more most : List Grant) → q < 2 → AreTheirs (every_second (1 - q) es) more
     → AreTheirs (every_second q es) most → AreTheirs es (more ++ most)
 theirs-both q es more most low one two = record {
-  as_many = omega (arith, length-append more most, one.as_many, two.as_many, length-dealt q es low);
+  as_many = omega (arith, length-append more most, one.as_many, two.as_many, (length-dealt q es low).0, (length-dealt q es low).1);
   as_often = λ client. omega (
     arith,
     sum_by-append (λ (g : Grant). cond (g.client == client) 1 0) more most,
@@ -115,7 +115,7 @@ theirs-both q es more most low one two = record {
   );
 }
 
--- a group went on by a balancer, and first those left who went on to its output 1, and then the others
+-- a party went on by a balancer, and first those left who went on to its output 1, and then the others
 pub left-both : (start : Start) (wire b : ℕ) (formed : IsWellFormed start.network.table) (low : wire < length start.network.table.ends)
     (ends : end_of start.network.table wire ≡ Balancer b) (stands : Stands start.network.table (Balancer b))
     (n : ℕ) (v mid w : View) → MayGo start wire (Balancer b) formed low ends stands v (on v.tokens wire) → 0 < length (on v.tokens wire)

@@ -1,8 +1,8 @@
--- One step of a group, whose tokens all pass the end of a wire together.
+-- One step of a party, whose tokens all pass the end of a wire together.
 use Rattle.std.proofs.Common.{◌≡◌, ℕ, zero, suc, ◌+◌, ◌-◌, ◌*◌, ◌%◌, ◌<◌, ◌≤◌, inl, inr, List, [], ◌∷◌, ◌++◌, length, refl, sym, ap, ◌∙◌, subst, arith}
-use Rattle.cn_floor.proofs.Common.{AreLetBy, Balancer, End, Exit, IsStart, IsWellFormed, LeadsOn, Stands, Start, StoodInState, View, after_sweep, base, cases_eq, end_of, on, output_wire, times_in}
+use Rattle.cn_floor.proofs.Common.{Balancer, End, Exit, LeadsOn, Start, StoodInState, View, base, cases_eq, on, output_wire, times_in}
 use Rattle.cn_yard.specs.Deals.{every_second}
-use Rattle.cn_floor.specs.Listed.{HaveLeft}
+use Rattle.cn_floor.specs.Listed.{GoTogether, HaveLeft}
 use Rattle.cn_floor.specs.Sweeps.{grants_out}
 use Rattle.cn_floor.proofs.InStates.Sweeps.{MayGo}
 use Rattle.cn_floor.proofs.InLane.Named.{state-after}
@@ -10,44 +10,38 @@ use Rattle.cn_floor.proofs.InLane.Swept.{IsKin, grants-kept, grants-left, kin-by
 use Rattle.cn_floor.proofs.InLane.Listed.Dealt.{Dealt, dealt}
 use Rattle.cn_floor.proofs.InLane.Listed.Left.{left-both, left-out, nobody-left}
 
--- all tokens of a wire, of which there are some, go by an end together
-pub record GoTogether (start : Start) (wire : ℕ) (end : End) (n : ℕ) (v w : View) : Type 0 where
-  pub formed : IsWellFormed start.network.table
+-- all who stood on a wire have left
+abbrev pub HasLeft : View → View → ℕ → Type 0
+HasLeft v w wire = HaveLeft v w wire (on v.tokens wire)
+
+-- of a view one was made in which these tokens may pass the end of a wire: nobody stands on a greater one
+pub record MayPass (start : Start) (v w : View) (wire : ℕ) (tokens : List (ℕ × ℕ)) : Type 0 where
+  pub of : w.start ≡ v.start
+  pub loads : w.loads ≡ v.loads
+  pub wires : length w.tokens ≡ length start.network.table.ends
   pub low : wire < length start.network.table.ends
-  pub ends : end_of start.network.table wire ≡ end
-  pub stands : Stands start.network.table end
-  pub may : MayGo start wire end formed low ends stands v (on v.tokens wire)
-  pub some : 0 < length (on v.tokens wire)
-  pub above : (u : ℕ) → wire < u → on v.tokens u ≡ []
-  pub went : w ≡ after_sweep wire end n v
-  pub by : AreLetBy start v w wire end n
+  pub once : (token : ℕ) → times_in w.tokens token ≤ 1
+  pub are : on w.tokens wire ≡ tokens
+  pub above : (u : ℕ) → wire < u → on w.tokens u ≡ []
 
-pub together : (start : Start) (wire : ℕ) (end : End) (n : ℕ) (v w : View) → IsStart start → v.start ≡ start
-    → length v.tokens ≡ length start.network.table.ends
-    → wire < length start.network.table.ends → ((k : ℕ) → times_in v.tokens k ≤ 1) → ((u : ℕ) → wire < u → on v.tokens u ≡ [])
-    → 0 < length (on v.tokens wire)
-    → end_of start.network.table wire ≡ end → Stands start.network.table end → w ≡ after_sweep wire end n v → AreLetBy start v w wire end n
-    → GoTogether start wire end n v w
-together start wire end n v w began of wires low once above some ends stands went by = record {
-  formed = began.network.formed;
-  low = low;
-  ends = ends;
-  stands = stands;
-  may = record { on_wire = refl; once = once; wires = wires; of = of };
-  some = some;
-  above = above;
-  went = went;
-  by = by;
-}
+one-second : (es : List (ℕ × ℕ)) → length es ≡ 1 → (every_second 0 es ≡ es) × (every_second 1 es ≡ [])
+unfolding every_second
+one-second [] one = absurd (omega (arith, one))
+one-second (e ∷ []) one = (refl, refl)
+one-second (e ∷ d ∷ rest) one = absurd (omega (arith, one))
 
-module _ (start : Start) (wire b n : ℕ) (v w : View) (go : GoTogether start wire (Balancer b) n v w) where
+abbrev may : {start : Start} {wire : ℕ} {end : End} {n : ℕ} {v w : View} → (go : GoTogether start wire end n v w)
+    → MayGo start wire end go.formed go.low go.ends go.stands v (on v.tokens wire)
+may go = record { on_wire = refl; once = go.once; wires = go.wires; of = go.of }
+
+module _ {start : Start} {wire b n : ℕ} {v w : View} (go : GoTogether start wire (Balancer b) n v w) where
   abbrev Both : View → Type 0
   Both x = Dealt start wire b go.formed go.low go.ends go.stands v x n
 
-  pub dealt-so : Both w
-  dealt-so = subst Both (sym go.went) (dealt start wire b go.formed go.low go.ends go.stands n v go.may go.above)
+  dealt-so : Both w
+  dealt-so = subst Both (sym go.went) (dealt start wire b go.formed go.low go.ends go.stands n v (may go) go.above)
 
-  pub kin-so : IsKin v w
+  kin-so : IsKin v w
   kin-so =
       let like = kin-by (Balancer b) n (on v.tokens wire) v in
       subst (λ (x : View). IsKin v x) (sym go.went)
@@ -63,90 +57,84 @@ module _ (start : Start) (wire b n : ℕ) (v w : View) (go : GoTogether start wi
   pub grants-so : w.grants ≡ v.grants
   grants-so = ap (λ (x : View). x.grants) go.went ∙ grants-kept b n (on v.tokens wire) v
 
-  pub forward : wire < start.network.table.entries + 2 * b
+  forward : wire < start.network.table.entries + 2 * b
   forward = subst (LeadsOn start.network.table wire) go.ends (go.formed.forward wire go.low)
 
-  pub inside : start.network.table.entries + 2 * b + 1 < length start.network.table.ends
+  inside : start.network.table.entries + 2 * b + 1 < length start.network.table.ends
   inside = omega (arith, go.stands, go.formed.wires)
 
   -- nobody stands above the second output
-  pub above-second : (u : ℕ) → output_wire start.network.table b 1 < u → on w.tokens u ≡ []
+  above-second : (u : ℕ) → output_wire start.network.table b 1 < u → on w.tokens u ≡ []
   above-second u more = dealt-so.others u (λ e. omega (arith, e, more, forward)) (λ e. omega (arith, e, more)) (λ e. omega (arith, e, more))
       ∙ go.above u (omega (arith, more, forward))
 
-  -- nor above the first, once those of the second have left
-  pub above-first : (mid : View) → HaveLeft w mid (output_wire start.network.table b 1) (on w.tokens (output_wire start.network.table b 1))
-      → (u : ℕ) → output_wire start.network.table b 0 < u → on mid.tokens u ≡ []
-  above-first mid left u more = elim (cases_eq u (output_wire start.network.table b 1)) [
-    | inl e ↦ subst (λ (x : ℕ). on mid.tokens x ≡ []) (sym e) left.empty
-    | inr other ↦ left.others u other ∙ above-second u (omega (arith, more, other))
-  ]
+  -- those of the second output
+  pub second-next : (q : ℕ) → q ≡ n % 2 → (u : ℕ) → u ≡ output_wire start.network.table b 1
+      → MayPass start v w u (every_second (1 - q) (on v.tokens wire))
+  second-next q is u to = record {
+    of = kin-so.start;
+    loads = kin-so.loads;
+    wires = dealt-so.wires;
+    low = omega (arith, to, inside);
+    once = dealt-so.once;
+    are = ap (on w.tokens) to ∙ dealt-so.second ∙ ap (λ (p : ℕ). every_second (1 - p) (on v.tokens wire)) (sym is);
+    above = λ x more. above-second x (omega (arith, more, to));
+  }
 
-  pub first-stand : (mid : View) → HaveLeft w mid (output_wire start.network.table b 1) (on w.tokens (output_wire start.network.table b 1))
-      → on mid.tokens (output_wire start.network.table b 0) ≡ every_second (n % 2) (on v.tokens wire)
-  first-stand mid left = left.others (output_wire start.network.table b 0) (λ e. omega (arith, e)) ∙ dealt-so.first
+  -- once they have left, those of the first
+  pub first-next : (q : ℕ) → q ≡ n % 2 → {mid : View} {o : ℕ} → HasLeft w mid o → ((token : ℕ) → times_in mid.tokens token ≤ 1)
+      → o ≡ output_wire start.network.table b 1 → (u : ℕ) → u ≡ output_wire start.network.table b 0
+      → MayPass start v mid u (every_second q (on v.tokens wire))
+  first-next q is {mid} {o} left once to1 u to0 = record {
+    of = left.start ∙ kin-so.start;
+    loads = left.loads ∙ kin-so.loads;
+    wires = left.wires ∙ dealt-so.wires;
+    low = omega (arith, to0, inside);
+    once = once;
+    are = left.others u (λ e. omega (arith, e, to0, to1)) ∙ ap (on w.tokens) to0 ∙ dealt-so.first
+        ∙ ap (λ (p : ℕ). every_second p (on v.tokens wire)) (sym is);
+    above = λ x more. elim (cases_eq x o) [
+      | inl e ↦ subst (λ (y : ℕ). on mid.tokens y ≡ []) (sym e) left.empty
+      | inr other ↦ left.others x other ∙ above-second x (omega (arith, more, to0, to1, other))
+    ];
+  }
 
-  pub left-so : (mid x : View) → HaveLeft w mid (output_wire start.network.table b 1) (on w.tokens (output_wire start.network.table b 1))
-      → HaveLeft mid x (output_wire start.network.table b 0) (on mid.tokens (output_wire start.network.table b 0))
-      → HaveLeft v x wire (on v.tokens wire)
-  left-so mid x one two =
-      left-both start wire b go.formed go.low go.ends go.stands n v mid x go.may go.some go.above
+  pub left-so : {mid x : View} {o u : ℕ} → HasLeft w mid o → HasLeft mid x u → o ≡ output_wire start.network.table b 1
+      → u ≡ output_wire start.network.table b 0 → HasLeft v x wire
+  left-so {mid} {x} one two to1 to0 =
+      left-both start wire b go.formed go.low go.ends go.stands n v mid x (may go) go.some go.above
       (subst (λ (y : View). StoodInState start y) go.went (state-after _ _ _ _ go.by.step))
-      (subst (λ (y : View). HaveLeft y mid (output_wire start.network.table b 1) (on y.tokens (output_wire start.network.table b 1)))
-      go.went one) two
+      (subst (λ (y : View). HasLeft y mid (output_wire start.network.table b 1)) go.went (subst (HasLeft w mid) to1 one))
+      (subst (HasLeft mid x) to0 two)
 
--- ---- one token by itself
+  -- a token by itself goes on to an output: once it has left from there, it has left
+  pub goes-by-itself : length (on v.tokens wire) ≡ 1 → (q : ℕ) → q ≡ n % 2 → (u : ℕ) → u ≡ output_wire start.network.table b q
+      → MayPass start v w u (on v.tokens wire) × ((x : View) → HasLeft w x u → HasLeft v x wire)
+  goes-by-itself one zero is u to =
+      let all = one-second (on v.tokens wire) one in
+      let nobody : HasLeft w w (output_wire start.network.table b 1) =
+      nobody-left w (output_wire start.network.table b 1) ((second-next zero is _ refl).are ∙ all.1) in (
+        subst (MayPass start v w u) all.0 (first-next zero is nobody dealt-so.once refl u to),
+        λ x left. left-so nobody left refl to,
+      )
+  goes-by-itself one (suc zero) is u to =
+      let all = one-second (on v.tokens wire) one in (
+        subst (MayPass start v w u) all.0 (second-next 1 is u to),
+        λ x left. left-so left (nobody-left x (output_wire start.network.table b 0)
+            (left.others (output_wire start.network.table b 0) (λ e. omega (arith, e, to))
+            ∙ dealt-so.first ∙ ap (λ (p : ℕ). every_second p (on v.tokens wire)) (sym is) ∙ all.1)) to refl,
+      )
+  goes-by-itself one (suc (suc q)) is u to = absurd (omega (arith, is))
 
-one-second : (es : List (ℕ × ℕ)) → length es ≡ 1 → (every_second 0 es ≡ es) × (every_second 1 es ≡ [])
-unfolding every_second
-one-second [] one = absurd (omega (arith, one))
-one-second (e ∷ []) one = (refl, refl)
-one-second (e ∷ d ∷ rest) one = absurd (omega (arith, one))
-
--- a token by itself goes on to an output, with nobody above: once it has left from there, it has left
-pub record GoesOnByItself (start : Start) (wire b q : ℕ) (v w : View) : Type 0 where
-  pub to : on w.tokens (output_wire start.network.table b q) ≡ on v.tokens wire
-  pub above : (u : ℕ) → output_wire start.network.table b q < u → on w.tokens u ≡ []
-  pub left : (x : View) → HaveLeft w x (output_wire start.network.table b q) (on w.tokens (output_wire start.network.table b q))
-      → HaveLeft v x wire (on v.tokens wire)
-
-pub goes-on-by-itself : (start : Start) (wire b n : ℕ) (v w : View) → GoTogether start wire (Balancer b) n v w
-    → length (on v.tokens wire) ≡ 1 → GoesOnByItself start wire b (n % 2) v w
-goes-on-by-itself start wire b n v w go one =
-    let is = dealt-so start wire b n v w go in
-    by (n % 2) (omega arith) is.first is.second
-  where
-    by : (q : ℕ) → q < 2 → on w.tokens (output_wire start.network.table b 0) ≡ every_second q (on v.tokens wire)
-        → on w.tokens (output_wire start.network.table b 1) ≡ every_second (1 - q) (on v.tokens wire)
-        → GoesOnByItself start wire b q v w
-    by zero low first second =
-        let none : on w.tokens (output_wire start.network.table b 1) ≡ [] = second ∙ (one-second (on v.tokens wire) one).1 in
-        record {
-          to = first ∙ (one-second (on v.tokens wire) one).0;
-          above = λ u more. elim (cases_eq u (output_wire start.network.table b 1)) [
-            | inl e ↦ subst (λ (y : ℕ). on w.tokens y ≡ []) (sym e) none
-            | inr other ↦ above-second start wire b n v w go u (omega (arith, more, other))
-          ];
-          left = λ x left. left-so start wire b n v w go w x (nobody-left w (output_wire start.network.table b 1) none) left;
-        }
-    by (suc zero) low first second = record {
-      to = second ∙ (one-second (on v.tokens wire) one).0;
-      above = above-second start wire b n v w go;
-      left = λ x left. left-so start wire b n v w go x x left
-          (nobody-left x (output_wire start.network.table b 0)
-          (left.others (output_wire start.network.table b 0) (λ e. omega (arith, e)) ∙ first ∙ (one-second (on v.tokens wire) one).1));
-    }
-    by (suc (suc q)) low first second = absurd (omega (arith, low))
-
-module _ (start : Start) (wire i n : ℕ) (v w : View) (go : GoTogether start wire (Exit i) n v w) where
+module _ {start : Start} {wire i n : ℕ} {v w : View} (go : GoTogether start wire (Exit i) n v w) where
   abbrev Ends : View → Type 0
   Ends x = HaveLeft v x wire (on v.tokens wire) × ((k : ℕ) → times_in x.tokens k ≤ 1)
 
   pub left-by : Ends w
   left-by = subst Ends (sym go.went)
-      (left-out start wire i go.formed go.low go.ends go.stands n v go.may go.some
+      (left-out start wire i go.formed go.low go.ends go.stands n v (may go) go.some
       (subst (λ (y : View). StoodInState start y) go.went (state-after _ _ _ _ go.by.step)))
 
   pub grants-by : w.grants ≡ v.grants ++ grants_out start.network.table.width (base start) i n (on v.tokens wire)
   grants-by = ap (λ (x : View). x.grants) go.went ∙ grants-left i n (on v.tokens wire) v
-      ∙ ap (λ (s : Start). v.grants ++ grants_out s.network.table.width (base s) i n (on v.tokens wire)) go.may.of
+      ∙ ap (λ (s : Start). v.grants ++ grants_out s.network.table.width (base s) i n (on v.tokens wire)) go.of

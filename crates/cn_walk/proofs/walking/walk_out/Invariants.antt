@@ -1,7 +1,7 @@
 use Rattle.std.proofs.Common.{◌≡◌, ℕ, ◌<◌, ◌≤◌, [], length}
 use Rattle.cn_yard.specs.Lists.{on}
-use Rattle.cn_walk.specs.Walks.{Walks, steps_left}
-use Rattle.cn_walk.proofs.Walks.{IsHeld}
+use Rattle.cn_walk.specs.Walks.{Walks}
+use Rattle.cn_walk.proofs.Walks.{IsHeld, steps_left}
 use Rattle.cn_walk.proofs.walking.walk_out.Given as goal
 
 -- some of those inside went on or out, and nobody stands below the last wire

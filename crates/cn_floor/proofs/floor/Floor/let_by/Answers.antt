@@ -35,16 +35,18 @@ sweep-number-requires-clause-stands c =
     subst (λ (n : Network). Stands n.table c.end-end.result)
     (c.requires.network ∙ ap (λ (h : FloorValue). h.start.network) (sym c.self.view_is)) c.end-end.ensures.there
 
-pub returns-clause-end : goal.returns-clause-end
-returns-clause-end c = ap (λ (n : Network). end_of n.table c.args.wire) (sym c.requires.network) ∙ c.end-end.ensures.at
-
-pub returns-clause-stands : goal.returns-clause-stands
-returns-clause-stands c = subst (λ (n : Network). Stands n.table c.end-end.result) c.requires.network c.end-end.ensures.there
-
-pub returns-clause-went : goal.returns-clause-went
-returns-clause-went c = c.sweep-number.ensures.went.0
-
-pub returns-clause-by : goal.returns-clause-by
-returns-clause-by c =
-    subst (λ (h : FloorValue). AreLetBy h.start c.args.seat.now.me.0 c.sweep-number.new.seat.me.0 c.args.wire c.end-end.result
-    c.sweep-number.result) c.self.view_is c.sweep-number.ensures.went.1
+pub returns-clause-together : goal.returns-clause-together
+returns-clause-together c = record {
+  formed = c.start_laws.ensures.network.formed;
+  low = c.requires.wire;
+  ends = ap (λ (n : Network). end_of n.table c.args.wire) (sym c.requires.network) ∙ c.end-end.ensures.at;
+  stands = subst (λ (n : Network). Stands n.table c.end-end.result) c.requires.network c.end-end.ensures.there;
+  once = c.requires.once;
+  wires = c.requires.wires;
+  of = c.requires.own.1;
+  some = omega (arith, c.requires.tokens);
+  above = c.requires.above;
+  went = c.sweep-number.ensures.went.0;
+  by = subst (λ (h : FloorValue). AreLetBy h.start c.args.seat.now.me.0 c.sweep-number.new.seat.me.0 c.args.wire c.end-end.result
+      c.sweep-number.result) c.self.view_is c.sweep-number.ensures.went.1;
+}

@@ -3,7 +3,7 @@ use Rattle.std.proofs.Math.Seq.{take-length}
 use Rattle.std.proofs.lemmas.List.{nil_from_length}
 use Rattle.cn_floor.proofs.Common.{FloorValue, LaneValue, Lists, Network, Start, StoodInState, View, lane_of, on, tokens_in}
 use Rattle.cn_yard.proofs.CallerLemmas.{nobody-on}
-use Rattle.cn_floor.specs.Listed.{WalkTogether, by_one_entry}
+use Rattle.cn_floor.specs.Listed.{ListFrame, WalkTogether, by_one_entry}
 use Rattle.cn_floor.specs.Rule.{FitsLanes}
 use Rattle.cn_floor.proofs.AtClose.Rises.{all-empty}
 use Rattle.cn_floor.proofs.InLane.Listed.Groups.{placed-many}
@@ -56,9 +56,10 @@ invariant_of-lane-2 c =
     let left = c.pass_all.ensures.left in
     let held : lane_of c.lane.inside ≡ c.args.lane.now = c.lane.view_is in
     let nobody : tokens_in c.lane.inside.yard.lists ≡ 0 = ap (λ (l : LaneValue). tokens_in l.yard.lists) held ∙ c.requires.out in
+    let granted = c.pass_all.ensures.noted [] (c.make_way.ensures.items ∙ was.grants ∙ sym came.grants) in
     let (more, grew, theirs) = left.grants in
-    let many : length c.pass_all.new.grants.items ≡ length v.grants + k =
-    ap length (c.pass_all.ensures.grants ∙ grew) ∙ length-append w.grants more
+    let many : length c.pass_all.new.notes.grants.now.items ≡ length v.grants + k =
+    ap length (granted ∙ grew) ∙ length-append w.grants more
     ∙ (λ i. length (came.grants i) + (theirs.as_many ∙ ap length came.there ∙ placed-many clients 0 1 k) i) in
     record {
       no_slot = c.pass_all.ensures.seat.1;
@@ -66,7 +67,7 @@ invariant_of-lane-2 c =
       tokens = all-empty c.lane.inside.yard.lists nobody ∙ (λ i. replicate (length (was.tokens i)) [])
           ∙ sym (nobody-stands v w x clients c.args.entry k came left);
       wires = was.wires ∙ ap (λ (s : Start). length s.network.table.ends) (sym (left.start ∙ came.start));
-      grants = c.pass_all.ensures.grants;
+      grants = granted;
       quota = omega (arith, was.quota, came.quota, left.quota);
       small = subst FitsLanes (sym (left.start ∙ came.start)) was.small;
       few = omega (arith, was.few);
@@ -77,7 +78,7 @@ invariant_of-lane-2 c =
         many,
         ap length c.make_way.ensures.items,
         ap length was.grants,
-        c.pass_all.ensures.capacity,
+        ap (λ (f : ListFrame). f.capacity) c.pass_all.ensures.kept,
       );
     }
 
@@ -157,17 +158,22 @@ pass_all-requires-clause-wire c =
       ap (λ (n : Network). n.table.entries) c.network.ensures.value,
     )
 
-pub pass_all-requires-clause-group : goal.pass_all-requires-clause-group
-pass_all-requires-clause-group c = record { are = c.come_in.ensures.came.there; within = λ some. omega (arith, some) }
+pub pass_all-requires-clause-party : goal.pass_all-requires-clause-party
+pass_all-requires-clause-party c = record {
+  are = c.come_in.ensures.came.there;
+  within = λ some. omega (arith, some);
+  few = omega (arith, c.if-quota-count.false, c.quota.ensures, c.lane_laws.ensures.few);
+}
 
 pub pass_all-requires-clause-above : goal.pass_all-requires-clause-above
 pass_all-requires-clause-above c u more = c.come_in.ensures.came.others u (λ e. omega (arith, e, more))
 
+pub pass_all-requires-clause-many : goal.pass_all-requires-clause-many
+pass_all-requires-clause-many c =
+    ap length c.come_in.ensures.came.there ∙ placed-many c.args.clients.now 0 1 (length c.args.clients.now)
+
 pub pass_all-requires-clause-room : goal.pass_all-requires-clause-room
 pass_all-requires-clause-room c = omega (arith, c.in-Ok.ensures.ok)
-
-pub pass_all-requires-clause-grants : goal.pass_all-requires-clause-grants
-pass_all-requires-clause-grants c = c.make_way.ensures.items ∙ c.lane.invariant.grants ∙ sym c.come_in.ensures.came.grants
 
 pub overflow_sub-lane : goal.overflow_sub-lane
 overflow_sub-lane c =

@@ -1,16 +1,17 @@
-use Rattle.std.proofs.Common.{◌≡◌, ℕ, ◌+◌, List, [], ◌++◌, length, replicate, arith, sym, ap, ◌∙◌, subst, length-append}
+use Rattle.std.proofs.Common.{rules, ◌≡◌, ℕ, ◌+◌, List, [], ◌++◌, length, replicate, arith, sym, ap, ◌∙◌, subst, length-append}
 use Rattle.std.proofs.Math.Seq.{take-length}
-use Rattle.cn_floor.proofs.Common.{FloorValue, Network, Start, StoodInState, View, length-replicate, on}
+use Rattle.cn_floor.proofs.Common.{FloorValue, Grant, Network, Start, StoodInState, View, length-replicate, on}
 use Rattle.cn_floor.specs.InsideTaker.{taker_of}
 use Rattle.cn_floor.specs.Listed.{WalkTogether, by_one_entry}
-use Rattle.cn_floor.specs.Taking.{TakerValue}
+use Rattle.cn_floor.specs.Taking.{AreWritten, TakerValue}
 use Rattle.cn_floor.proofs.InLane.Listed.Groups.{placed-many}
 use Rattle.cn_floor.proofs.InLane.Listed.CameIn.{came-once, nobody-stands}
 use Rattle.cn_floor.proofs.InLane.InTurn.{walk-together}
+use Rattle.cn_floor.proofs.InLane.Taken.{written-all}
 use Rattle.cn_floor.proofs.floor.Floor.take_many.Goals as goal
 
-pub pass_names-requires-clause-once : goal.pass_names-requires-clause-once
-pass_names-requires-clause-once c =
+pub pass_all-requires-clause-once : goal.pass_all-requires-clause-once
+pass_all-requires-clause-once c =
     let came = c.come_in.ensures.came in
     let held : taker_of c.taker.inside ≡ c.args.taker.now = c.taker.view_is in
     let begun : c.taker.inside.seat.me.0.start ≡ c.args.self.now.start =
@@ -29,26 +30,26 @@ pass_names-requires-clause-once c =
       ap (λ (n : Network). n.table.entries) c.network.ensures.value,
     ))
 
-pub pass_names-requires-clause-many : goal.pass_names-requires-clause-many
-pass_names-requires-clause-many c =
+pub pass_all-requires-clause-many : goal.pass_all-requires-clause-many
+pass_all-requires-clause-many c =
     ap length c.come_in.ensures.came.there ∙ placed-many c.args.names.now 0 1 (length c.args.names.now)
 
 pub invariant_of-taker : goal.invariant_of-taker
 invariant_of-taker c =
     let v : View = c.taker.inside.seat.me.0 in
     let w : View = c.come_in.new.seat.me.0 in
-    let x : View = c.pass_names.new.seat.me.0 in
+    let x : View = c.pass_all.new.seat.me.0 in
     let clients : List ℕ = c.args.names.now in
     let k : ℕ = length clients in
     let was = c.taker.invariant in
     let came = c.come_in.ensures.came in
-    let left = c.pass_names.ensures.left in
+    let left = c.pass_all.ensures.left in
     let (more, grew, theirs) = left.grants in
     let many : length x.grants ≡ length v.grants + k =
     ap length grew ∙ length-append w.grants more
     ∙ (λ i. length (came.grants i) + (theirs.as_many ∙ ap length came.there ∙ placed-many clients 0 1 k) i) in
     record {
-      no_slot = c.pass_names.ensures.seat.1;
+      no_slot = c.pass_all.ensures.seat.1;
       idle = left.loads ∙ came.loads ∙ was.idle;
       out = nobody-stands v w x clients c.args.entry k came left
           ∙ (λ i. replicate ((ap length was.out ∙ length-replicate {A = List (ℕ × ℕ)} (length v.start.network.table.ends) []) i) [])
@@ -62,25 +63,25 @@ pub returns-clause-ok : goal.returns-clause-ok
 returns-clause-ok c =
     let v : View = c.taker.inside.seat.me.0 in
     let w : View = c.come_in.new.seat.me.0 in
-    let x : View = c.pass_names.new.seat.me.0 in
+    let x : View = c.pass_all.new.seat.me.0 in
     let clients : List ℕ = c.args.names.now in
     let k : ℕ = length clients in
     let old : TakerValue = c.args.taker.now in
     let came = c.come_in.ensures.came in
-    let left = c.pass_names.ensures.left in
+    let left = c.pass_all.ensures.left in
     let held : taker_of c.taker.inside ≡ old = c.taker.view_is in
     let view : v ≡ old.view = ap (λ (t : TakerValue). t.view) held in
     let began : c.args.self.now.start ≡ old.home.start = sym (ap (λ (h : FloorValue). h.start) c.requires.own) in
     let own : v.start ≡ old.home.start = ap (λ (t : TakerValue). t.home.start) held in
     let stood : length (on w.tokens c.args.entry) ≡ k = ap length came.there ∙ placed-many clients 0 1 k in
-    let (more, grew, named) = c.pass_names.ensures.names in
+    let (more, grew, theirs) = left.grants in
     record {
       home = (λ i. record {
-        table = (c.pass_names.ensures.seat.0 ∙ c.come_in.ensures.seat.0) i;
+        table = (c.pass_all.ensures.seat.0 ∙ c.come_in.ensures.seat.0) i;
         start = (left.start ∙ came.start) i;
       }) ∙ ap (λ (t : TakerValue). t.home) held;
       walked = subst (λ (z : Start × View). WalkTogether z.0 clients c.args.entry z.1 x) (λ i. (began i, view i))
-          (walk-together c.args.self.now.start clients c.args.entry v w x c.come_in.ensures.step c.pass_names.ensures.swept);
+          (walk-together c.args.self.now.start clients c.args.entry v w x c.come_in.ensures.step c.pass_all.ensures.swept);
       quota = omega (arith, came.quota, left.quota, ap (λ (y : View). y.quota) view);
       entries = left.entries ∙ came.entries ∙ (λ i. (view i).entries ++ replicate k c.args.entry);
       came = left.came ∙ came.came ∙ (λ i. (view i).came ++ by_one_entry c.args.entry (take-length clients i));
@@ -88,7 +89,9 @@ returns-clause-ok c =
       grants = (
         more,
         grew ∙ (λ i. (came.grants ∙ ap (λ (y : View). y.grants) view) i ++ more),
-        named,
+        written-all w.grants more _ (search rules) (omega (arith, theirs.as_many, stood))
+            (subst (λ (gs : List Grant). AreWritten w.grants gs c.pass_all.new.notes) grew
+            (c.pass_all.ensures.noted w.grants (record { many = omega arith; each = λ k d low. absurd (omega (arith, low)) }))),
       );
       in_state = λ some. subst (λ (s : Start). StoodInState s x) (came.start ∙ own) (left.in_state (omega (arith, some, stood)));
     }

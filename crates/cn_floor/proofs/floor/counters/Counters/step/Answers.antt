@@ -1,4 +1,4 @@
-use Rattle.std.proofs.Common.{◌≡◌, ◌^◌, ◌%◌, ◌+◌, [], length, rules, sym, ap, ◌∙◌, subst, arith}
+use Rattle.std.proofs.Common.{◌≡◌, ℕ, ◌^◌, ◌%◌, ◌+◌, ◌*◌, [], length, rules, sym, ap, ◌∙◌, subst, arith}
 use Rattle.cn_floor.proofs.Common.{FloorValue, Stands, Start, end_of, end_word, start_of}
 use Rattle.cn_floor.specs.Plays.{GoesOn}
 use Rattle.cn_floor.proofs.InStates.Steps.{lets-on-by}
@@ -14,12 +14,16 @@ fetch_add-requires g c =
     let word : c.word_of.result ≡ end_word start.network.table c.args.end =
     c.word_of.ensures.word ∙ ap (λ (s : Start). end_word s.network.table c.args.end) about in
     let stands : Stands start.network.table c.args.end = subst (λ (s : Start). Stands s.network.table c.args.end) about c.requires.stands in
+    let same : c.args.stride ≡ c.self.inside.stride =
+    c.requires.stride ∙ ap (λ (h : FloorValue). h.start.stride) (sym c.self.view_is) ∙ c.self.invariant.apart in
+    let place : c.place_of-place.result ≡ c.self.inside.stride * c.word_of.result =
+    c.place_of-place.ensures ∙ ap (λ (k : ℕ). k * c.word_of.result) same in
     let low = end-there start.network.table c.args.end stands in (
       search rules,
-      there c.self.inside c.self.invariant c.place_of-place.ensures (omega (arith, word, low)),
+      there c.self.inside c.self.invariant place (omega (arith, word, low)),
       at-word c.self.inside c.self.invariant (λ n. (n + 1) % 2 ^ 64)
           (λ n new. (new.1 ≡ []) × GoesOn g.T.StepOf.going c.args.seat.now.me.0 n new.0)
-          c.place_of-place.ensures
+          place
           (lets-on-by start _ _ c.args.seat.now.me g.T.StepOf.going c.args._token c.args._client c.args._wire c.args.end c.word_of.result
           (c.requires.going ∙ ap (λ (s : Start). record
           { start = s; token = c.args._token; client = c.args._client; wire = c.args._wire; end = c.args.end }) about)
@@ -27,4 +31,12 @@ fetch_add-requires g c =
           (subst (λ (s : Start). length c.args.seat.now.me.0.tokens ≡ length s.network.table.ends) about c.requires.wires)
           (subst (λ (s : Start). end_of s.network.table c.args._wire ≡ c.args.end) about c.requires.ends)
           stands),
+    )
+
+pub place_of-place-requires-clause-stride : goal.place_of-place-requires-clause-stride
+place_of-place-requires-clause-stride g c =
+    omega (
+      arith,
+      c.requires.stride ∙ ap (λ (h : FloorValue). h.start.stride) (sym c.self.view_is) ∙ c.self.invariant.apart,
+      c.self.invariant.stride,
     )

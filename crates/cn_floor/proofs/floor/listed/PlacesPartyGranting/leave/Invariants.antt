@@ -1,11 +1,11 @@
 use Rattle.std.proofs.Common.{◌≡◌, ◌++◌, vec_capacity}
 use Rattle.cn_floor.specs.Listed.{placed}
 use Rattle.cn_floor.specs.Sweeps.{grants_out}
-use Rattle.cn_floor.proofs.floor.listed.grant_all.Given as goal
+use Rattle.cn_floor.proofs.floor.listed.PlacesPartyGranting.leave.Given as goal
 
 abbrev pub invariant-loop-number : goal.invariant-loop-number
 invariant-loop-number l = record {
   granted : l.grants.items ≡ l.initial.grants.items
-      ++ grants_out l.width l.base l.exit l.first (placed l.clients l.group.first l.group.stride l.number);
+      ++ grants_out l.width l.base l.exit l.first (placed l.clients l.self.first l.self.stride l.number);
   capacity : vec_capacity l.grants ≡ vec_capacity l.initial.grants;
 }

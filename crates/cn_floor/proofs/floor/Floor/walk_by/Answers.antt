@@ -1,9 +1,9 @@
 use Rattle.std.proofs.Common.{◌≡◌, ℕ, ◌<◌, ◌++◌, [], length, replicate, rules, sym, ap, ◌∙◌, subst, arith}
-use Rattle.cn_floor.proofs.Common.{End, Exit, FloorValue, IsAlone, IsAtomicStep, IsLetBy, Network, Stands, Start, View, end_of, last_on, length-map-range_with_len, on}
+use Rattle.cn_floor.proofs.Common.{Exit, FloorValue, IsAlone, IsAtomicStep, IsLetBy, Start, View, end_of, last_on, length-map-range_with_len, on}
 use Rattle.cn_ledger.specs.Events.{Enters}
 use Rattle.cn_floor.proofs.InLane.Alone.{there-alone}
 use Rattle.cn_floor.proofs.InLane.Named.{alone-entered, gone-alone}
-use Rattle.cn_floor.proofs.floor.Floor.walk_through.Goals as goal
+use Rattle.cn_floor.proofs.floor.Floor.walk_by.Goals as goal
 
 pub pass_on-wire-requires-clause-wires : goal.pass_on-wire-requires-clause-wires
 pass_on-wire-requires-clause-wires g c =
@@ -21,7 +21,7 @@ pass_on-wire-requires-clause-alone g c =
 
 pub step-visit-requires-clause-there : goal.step-visit-requires-clause-there
 step-visit-requires-clause-there g c =
-    there-alone c.pass_on-wire.new.seat.me.0.tokens c.first-token.result c.args.client c.pass_on-wire.result c.pass_on-wire.ensures.alone
+    there-alone c.pass_on-wire.new.seat.me.0.tokens c.first-token.result c.args.client c.pass_on-wire.result.0 c.pass_on-wire.ensures.alone
 
 pub step-visit-requires-clause-wires : goal.step-visit-requires-clause-wires
 step-visit-requires-clause-wires g c =
@@ -39,7 +39,7 @@ returns-clause-gone g c =
     c.pass_on-wire.ensures.passed.wires ∙ ap (λ (x : View). length x.tokens) c.enter.ensures.came.0
     ∙ length-map-range_with_len (λ u. on v.tokens u ++ last_on c.first-token.result c.args.client c.args.entry u) 0 (length v.tokens) in
     ap (λ (x : View). x.tokens) c.step-visit.ensures.went.0
-    ∙ gone-alone c.first-token.result c.args.client c.pass_on-wire.result c.in-Exit.exit c.step-visit.result before
+    ∙ gone-alone c.first-token.result c.args.client c.pass_on-wire.result.0 c.pass_on-wire.result.1 c.step-visit.result before
     c.pass_on-wire.ensures.alone
     ∙ ap (λ (n : ℕ). replicate n []) wires
 
@@ -49,7 +49,7 @@ returns-clause-walked g c =
     record {
       token = c.first-token.result;
       numbers = c.pass_on-wire.ensures.by.0;
-      wire = c.pass_on-wire.result;
+      wire = c.pass_on-wire.result.0;
       inside = c.enter.new.seat.me.0;
       before = c.pass_on-wire.new.seat.me.0;
       came = c.enter.ensures.came.0;
@@ -57,8 +57,8 @@ returns-clause-walked g c =
           (λ l m. Enters s.network.table l m c.args.client c.args.entry)) same c.enter.ensures.came.1;
       passes = c.pass_on-wire.ensures.by.1;
       ends = search rules;
-      leaves = subst (λ (s : Start). IsLetBy s c.pass_on-wire.new.seat.me.0 c.step-visit.new.seat.me.0 c.args.client (Exit c.in-Exit.exit)
-          c.step-visit.result) same c.step-visit.ensures.went.1;
+      leaves = subst (λ (s : Start). IsLetBy s c.pass_on-wire.new.seat.me.0 c.step-visit.new.seat.me.0 c.args.client
+          (Exit c.pass_on-wire.result.1) c.step-visit.result) same c.step-visit.ensures.went.1;
       after = c.step-visit.ensures.went.0;
     }
 
@@ -71,7 +71,7 @@ enter-requires-clause-own g c = (
 pub enter-requires-clause-entry : goal.enter-requires-clause-entry
 enter-requires-clause-entry g c = (
   subst (λ (h : FloorValue). c.args.entry < h.start.network.table.entries) (sym c.self.view_is) c.requires.entry,
-  omega (arith, c.requires.entry, c.requires.wires, c.network-network.ensures.network.formed.wires),
+  omega (arith, c.requires.entry, c.requires.wires, c.start_laws.ensures.network.formed.wires),
 )
 
 pub pass_on-wire-requires-clause-own : goal.pass_on-wire-requires-clause-own
@@ -99,37 +99,8 @@ step-visit-requires-clause-slots g c = (
 
 pub step-visit-requires-clause-ends : goal.step-visit-requires-clause-ends
 step-visit-requires-clause-ends g c =
-    ap (λ (n : Network). end_of n.table c.pass_on-wire.result)
-    (ap (λ (h : FloorValue). h.start.network) c.self.view_is ∙ sym c.network-network.ensures.value) ∙ c.end.ensures.at ∙ c.in-Exit.is
+    ap (λ (h : FloorValue). end_of h.start.network.table c.pass_on-wire.result.0) c.self.view_is ∙ c.pass_on-wire.ensures.exit
 
 pub step-visit-requires-clause-stands : goal.step-visit-requires-clause-stands
 step-visit-requires-clause-stands g c =
-    subst (λ (n : Network). Stands n.table (Exit c.in-Exit.exit))
-    (c.network-network.ensures.value ∙ ap (λ (h : FloorValue). h.start.network) (sym c.self.view_is))
-    (subst (λ (e : End). Stands c.network-network.result.now.table e) c.in-Exit.is c.end.ensures.there)
-
-pub returns-clause-exit : goal.returns-clause-exit
-returns-clause-exit g c =
-    subst (λ (n : Network). Stands n.table (Exit c.in-Exit.exit)) c.network-network.ensures.value
-    (subst (λ (e : End). Stands c.network-network.result.now.table e) c.in-Exit.is c.end.ensures.there)
-
-pub end-requires : goal.end-requires
-end-requires g c =
-    let v : View = c.args.seat.now.me.0 in
-    let wires : length c.pass_on-wire.new.seat.me.0.tokens ≡ length v.tokens =
-    c.pass_on-wire.ensures.passed.wires ∙ ap (λ (x : View). length x.tokens) c.enter.ensures.came.0
-    ∙ length-map-range_with_len (λ u. on v.tokens u ++ last_on c.first-token.result c.args.client c.args.entry u) 0 (length v.tokens) in
-    omega (
-      arith,
-      c.pass_on-wire.ensures.alone.inside,
-      wires,
-      c.requires.wires,
-      c.network-network.ensures.network.formed.wires,
-      ap (λ (n : Network). n.table.entries) c.network-network.ensures.value,
-      ap (λ (n : Network). n.table.balancers) c.network-network.ensures.value,
-    )
-
-pub unreachable-requires : goal.unreachable-requires
-unreachable-requires g c =
-    let (i, ends) = c.pass_on-wire.ensures.exit in
-    cc (ends, c.network-network.ensures.value, c.end.ensures.at, c.in-Balancer.is)
+    subst (λ (h : FloorValue). c.pass_on-wire.result.1 < h.start.network.table.width) (sym c.self.view_is) c.pass_on-wire.ensures.low
