@@ -10,12 +10,15 @@ entries. Rows `apart` are of floors whose words lie 128 bytes apart.
 
 Rows of takes and lists of takes are of takers, which keep no list. One thread is compared by processor time, in
 uncontended adds, and on some networks to a walk in plain Rust, which makes as many adds as a name is, each on the word
-that the last one's number leads to; several by the clock, each way to the add by as many threads. A ratio is the median
-over ten rounds, in which all ways run in turn; a run is the median of five epochs after a first, in which its memory
-comes from the system. It measures the names only, and not what is made before. Rows of lanes are what a lane takes
-without a name, by one thread: split off, handed back and joined, with as many there as the row says; the same of every
-eighth by turns, while the others are out; and a join while none is back. The rows of slabs are left out if the folder
-of crates has none.
+that the last one's number leads to. Single calls that name clients are compared to such a walk with a call and a grant:
+for each client a function is called that is no part of its caller, and that puts a grant of 32 bytes on a list with
+room, as a lane does. Takes are compared to the plain walk itself, which is made without a call, though a take is one.
+Several threads are compared by the clock, each way to the add by as many threads. A ratio is the median over ten
+rounds, in which all ways run in turn; a run is the median of five epochs after a first, in which its memory comes from
+the system. It measures the names only, and not what is made before. Rows of lanes are what a lane takes without a name,
+by one thread: split off, handed back and joined, with as many there as the row says; the same of every eighth by turns,
+while the others are out; and a join while none is back. The rows of slabs are left out if the folder of crates has
+none.
 """
 import statistics
 
@@ -28,9 +31,10 @@ LANES = (1, 8, 64, 1000, 100000)
 BY_LANES = {"lanes": "split off, handed back and joined", "eighth": "with seven eighths of them out",
             "none": "a join with none back"}
 TABLE, ADD, REFUSED = "a mutex and table", "the add", "a refused call"
-# How many adds a name is, and how many a take.
-ADDS = {"tree 64": 8, "bitonic 64": 23}
-TAKE_ADDS = {"tree 2": 3, **ADDS}
+# How many adds a name is, and a take.
+ADDS = {"tree 2": 3, "tree 64": 8, "bitonic 64": 23}
+# Walks in plain Rust.
+PLAIN, GRANTED = "a plain walk of {} adds", "a plain walk of {} adds with call and grant"
 SLABS = {"a mutex and slab": "slab", "a sharded slab": "sharded"}
 ALL_OVER = {f"{network} {width} by all entries": ["all-over", network, str(width)]
             for network, width in NETWORKS if network == "bitonic"}
@@ -77,17 +81,18 @@ def rows(bench):
     jobs[REFUSED, 1] = [namers, "refused", "1"]
     jobs |= {(f"{lanes} lane{'s' * (lanes > 1)}, {what}", 1): [namers, word, str(lanes), "1"]
              for word, what in BY_LANES.items() for lanes in LANES}
-    jobs |= {(f"a plain walk of {adds} adds", 1): [namers, "walk", str(adds), "1"] for adds in TAKE_ADDS.values()}
+    jobs |= {(walk.format(adds), 1): [namers, word, str(adds), "1"]
+             for walk, word in ((PLAIN, "walk"), (GRANTED, "granted-walk")) for adds in ADDS.values()}
     spent = measured(bench, jobs)
     for way, threads in jobs:
         if way != ADD:
             by, unit = ("processor", " adds") if threads == 1 else ("clock", "")
             ratio, times = compared(spent, (way, threads), (ADD, threads), by)
             yield measure.Row(f"{way}, {THREADS[threads]}", ratio, f"{times}{' by the clock' * (threads > 1)}", unit)
-    takes = {f"{way} by {what}": adds for way, adds in TAKE_ADDS.items() for what in ("takes", "takes of 64")}
-    for way, adds in {**ADDS, **takes}.items():
-        ratio, times = compared(spent, (way, 1), (f"a plain walk of {adds} adds", 1), "processor")
-        yield measure.Row(f"{way}, one thread, to a plain walk of {adds} adds", ratio, times)
+    for by, walk in (("", GRANTED), (" by takes", PLAIN), (" by takes of 64", PLAIN)):
+        for network, adds in ADDS.items():
+            ratio, times = compared(spent, (network + by, 1), (walk.format(adds), 1), "processor")
+            yield measure.Row(f"{network}{by}, one thread, to {walk.format(adds)}", ratio, times)
     for way in [way for way, threads in jobs if threads == 4 and way not in (ADD, TABLE, *SLABS)]:
         ratio, times = compared(spent, (way, 4), (TABLE, 4), "clock")
         yield measure.Row(f"{way}, four threads, to {TABLE}", ratio, f"{times} by the clock")

@@ -2,7 +2,7 @@
 //! mutex, a walk in plain Rust, or a floor of this repository's library.
 //!
 //!     namers add|table|refused THREADS ROUNDS
-//!     namers walk ADDS THREADS ROUNDS
+//!     namers walk|granted-walk ADDS THREADS ROUNDS
 //!     namers name|apart|many|all-over NETWORK WIDTH THREADS ROUNDS
 //!     namers take|take-many NETWORK WIDTH THREADS ROUNDS
 //!
@@ -14,6 +14,7 @@
 //! By all but `all-over`, by which each thread lets its clients in by all entries, each has entries of its own.
 //! By `apart` the words of the floor lie apart.
 mod timing;
+mod walks;
 
 use renamer::{Client, Error, Floor, Grant, Kind, Lane, Taker};
 use std::collections::HashMap;
@@ -23,6 +24,7 @@ use std::process;
 use std::sync::atomic::{AtomicU64, Ordering};
 use std::sync::Mutex;
 use timing::{in_threads, keep_memory, print_median, Spent, CLIENTS};
+use walks::{granted_walk, walk};
 
 /// The identities of a thread's clients: they rise, and are no small numbers.
 fn clients(thread: u64, threads: u64) -> impl Iterator<Item = u64> {
@@ -160,31 +162,6 @@ fn take_many(kind: Kind, width: u32, threads: u64) -> Spent {
     spent
 }
 
-/// A walk in plain Rust, without a floor: so many atomic adds for each client, each on the word that the number of the last
-/// one leads to, by a table of where wires end. What it gives are no names.
-fn walk(adds: usize, threads: u64) -> Spent {
-    const LAYER: usize = 32;
-    let words: Vec<AtomicU64> = (0..adds * LAYER).map(|_| AtomicU64::new(0)).collect();
-    // Output p of word w is wire 2 w + p.
-    let ends: Vec<u32> = (0..2 * words.len())
-        .map(|wire| (wire / (2 * LAYER) + 1) * LAYER + wire % LAYER)
-        .map(|word| u32::try_from(word).expect("there are few words"))
-        .collect();
-    let (spent, sum) = in_threads((0..threads).collect(), |thread| {
-        let walk = |client: u64| {
-            let mut word = client as usize % LAYER;
-            for _ in 1..adds {
-                let number = words[word].fetch_add(1, Ordering::SeqCst);
-                word = ends[2 * word + (number % 2) as usize] as usize;
-            }
-            words[word].fetch_add(1, Ordering::SeqCst)
-        };
-        clients(*thread, threads).map(walk).sum()
-    });
-    black_box(sum);
-    spent
-}
-
 /// A call that is refused: the network has no such entry.
 fn refused(threads: u64) -> Spent {
     let floor = Floor::open(Kind::Tree, 64, CLIENTS).expect("there is memory");
@@ -243,7 +220,7 @@ fn number<N: std::str::FromStr>(word: &str) -> N {
 }
 
 fn usage() -> ! {
-    eprintln!("namers: add|table|refused THREADS ROUNDS, walk ADDS THREADS ROUNDS, or");
+    eprintln!("namers: add|table|refused THREADS ROUNDS, walk|granted-walk ADDS THREADS ROUNDS, or");
     eprintln!("        name|apart|many|all-over bitonic|periodic|tree WIDTH THREADS ROUNDS, or");
     eprintln!("        take|take-many bitonic|periodic|tree WIDTH THREADS ROUNDS, or");
     eprintln!("        lanes|eighth|none LANES 1 ROUNDS");
@@ -268,6 +245,7 @@ fn main() {
         ["table", ..] => Box::new(table),
         ["refused", ..] => Box::new(refused),
         ["walk", adds, ..] => Box::new(move |threads| walk(number(adds), threads)),
+        ["granted-walk", adds, ..] => Box::new(move |threads| granted_walk(number(adds), threads)),
         ["name", network, width, ..] => {
             Box::new(move |threads| name(Floor::open, kind(network), number(width), Entering::Apart, threads))
         }
