@@ -185,9 +185,9 @@ impl<'a> Floor<'a> {
         (exit, visit)
     }
 
-    /// Lets a token that stands on an entry, alone in a view, pass one balancer after the other, until its wire ends at
-    /// an exit. Returns this wire and the exit. It passes as many balancers as the network is deep, so it does not test
-    /// whether a wire ends at one.
+    /// Lets a token that stands on an entry, the only one of a view, pass one balancer after the other, until its wire
+    /// ends at an exit. Returns this wire and the exit. It passes as many balancers as the network is deep, so it does
+    /// not test whether a wire ends at one.
     #[inline(always)]
     fn pass_on<P: Pause>(
         &self,
