@@ -4,6 +4,7 @@ pub mod Outs
 pub mod Swept
 pub mod Lanes
 pub mod Alone
+pub mod Counted
 pub mod Depths
 pub mod Named
 pub mod Listed

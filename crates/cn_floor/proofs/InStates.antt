@@ -21,4 +21,8 @@ pub mod Openings
 pub mod Loading
 pub mod Sharing
 pub mod Names
+pub mod Missing
+pub mod Order
+pub mod GoingOn
+pub mod Overtaken
 pub mod Together

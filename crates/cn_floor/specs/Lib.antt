@@ -23,6 +23,9 @@ pub mod Receipts
 pub mod InsideReceipts
 pub mod InsideQuiet
 pub mod Laws
+pub mod Missing
+pub mod Consistent
+pub mod GoesOn
 pub mod Alone
 pub mod Together
 pub mod Named

@@ -111,6 +111,12 @@ pub record AreNamed (old new : LaneValue) (clients : List ℕ) (entry : ℕ) : T
   pub seen : new.view.seen ≡ old.view.seen
   pub grants : (more : List Grant) × (new.view.grants ≡ old.view.grants ++ more) × (length more ≡ length clients)
       × ((client : ℕ) → count_by (λ g. g.client == client) more ≡ times client clients)
+  -- by as many atomic steps as one client takes, at least
+  pub enough_steps : 0 < length clients
+      → old.view.steps + (old.home.start.network.depth + 2) ≤ new.view.steps
+  -- and at most by one, and for each of them as many as the network is deep, and one
+  pub few_steps : new.view.steps
+      ≤ old.view.steps + 1 + (old.home.start.network.depth + 1) * length clients
   -- the lane stands in some state: so the rule holds of its names
   pub in_state : 0 < length clients → StoodInState old.home.start new.view
   pub yard : new.yard ≡ old.yard

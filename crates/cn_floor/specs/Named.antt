@@ -38,6 +38,8 @@ pub record IsGranted (start : Start) (client entry : ℕ) (grant : Grant) (v w :
   pub grants : w.grants ≡ v.grants ++ grant ∷ []
   pub seen : w.seen ≡ v.seen
   pub loads : w.loads ≡ v.loads
+  -- by as many atomic steps as the network is deep, and two
+  pub steps : w.steps ≡ v.steps + (start.network.depth + 2)
   -- the name is below what the floor may let in, and the view stands in some state
   pub low : grant.name < start.quota
   pub in_state : StoodInState start w
@@ -54,6 +56,8 @@ pub record IsNamed (old new : LaneValue) (client entry name : ℕ) : Type 0 wher
   pub grants : new.view.grants
       ≡ old.view.grants ++ record { client = client; exit = exit; visit = visit; name = name } ∷ []
   pub seen : new.view.seen ≡ old.view.seen
+  -- by as many atomic steps as the network is deep, and two
+  pub steps : new.view.steps ≡ old.view.steps + (old.home.start.network.depth + 2)
   -- the name is below what the floor may let in, and the lane stands in some state
   pub low : name < old.home.start.quota
   pub in_state : StoodInState old.home.start new.view

@@ -1,5 +1,5 @@
 -- A taker as contracts see it, and what calls make of one.
-use Rattle.std.specs.Prelude.{◌≡◌, ℕ, ◌+◌, ◌<◌, ◌++◌, List, get_or, length, map, replicate}
+use Rattle.std.specs.Prelude.{◌≡◌, ℕ, ◌+◌, ◌*◌, ◌<◌, ◌≤◌, ◌++◌, List, get_or, length, map, replicate}
 use Rattle.cn_floor.specs.declared.floor.taking.Names.{Names}
 use Rattle.cn_floor.specs.declared.view.Grant.{Grant}
 use Rattle.cn_floor.specs.declared.view.View.{View}
@@ -34,6 +34,12 @@ pub record AreTaken (old new : TakerValue) (clients : List ℕ) (entry : ℕ) (n
   pub came : new.view.came ≡ old.view.came ++ by_one_entry entry clients
   pub seen : new.view.seen ≡ old.view.seen
   pub grants : (more : List Grant) × (new.view.grants ≡ old.view.grants ++ more) × (names ≡ map (λ g. g.name) more)
+  -- by as many atomic steps as one client takes, at least
+  pub enough_steps : 0 < length clients
+      → old.view.steps + (old.home.start.network.depth + 2) ≤ new.view.steps
+  -- and at most by one, and for each of them as many as the network is deep, and one
+  pub few_steps : new.view.steps
+      ≤ old.view.steps + 1 + (old.home.start.network.depth + 1) * length clients
   -- the taker stands in some state: so the rule holds of its names
   pub in_state : 0 < length clients → StoodInState old.home.start new.view
 

@@ -4,6 +4,7 @@
 mod fault;
 mod floor;
 mod gate;
+pub mod laws;
 mod view;
 
 pub use fault::{JoinFault, LaneFault, OpenFault, SplitFault};

@@ -80,27 +80,35 @@ going t old c u end to granted h ends stands some = record {
   given = λ other n. refl;
 }
 
-pub passing : (t : Table) (old : Ledger) → IsSound t old → (c u b : ℕ) → u < length t.ends → end_of t u ≡ Balancer b → 1 ≤ old.standing u c
-    → (new : Ledger) × Passes t old new c u b
+pub passing-there : (t : Table) (old : Ledger) (c u b : ℕ) → u < length t.ends → end_of t u ≡ Balancer b → 1 ≤ old.standing u c
+    → 1 ≤ old.on u → (new : Ledger) × Passes t old new c u b
 unfolding after
-passing t old sound c u b h ends stands =
+passing-there t old c u b h ends stands some =
     let to : ℕ → ℕ = one_at (output_wire t b (old.count (Balancer b) % 2)) in (
       after old c u (Balancer b) to old.granted,
       record {
-        goes = going t old c u (Balancer b) to old.granted h ends stands (omega (arith, standing-le-on t old sound u c));
+        goes = going t old c u (Balancer b) to old.granted h ends stands some;
         granted = λ d i v name. refl;
       },
     )
 
-pub leaving : (t : Table) (old : Ledger) → IsSound t old → (c u i : ℕ) → u < length t.ends → end_of t u ≡ Exit i → 1 ≤ old.standing u c
-    → (new : Ledger) × Leaves t old new c u i
+pub leaving-there : (t : Table) (old : Ledger) (c u i : ℕ) → u < length t.ends → end_of t u ≡ Exit i → 1 ≤ old.standing u c
+    → 1 ≤ old.on u → (new : Ledger) × Leaves t old new c u i
 unfolding after
-leaving t old sound c u i h ends stands =
+leaving-there t old c u i h ends stands some =
     let granted : ℕ → ℕ → ℕ → ℕ → ℕ = λ d j v name. old.granted d j v name
     + when (eqb c d && (eqb i j && (eqb (old.count (Exit i)) v && eqb (name_of t.width i (old.count (Exit i))) name))) 1 in (
       after old c u (Exit i) (λ _. 0) granted,
       record {
-        goes = going t old c u (Exit i) (λ _. 0) granted h ends stands (omega (arith, standing-le-on t old sound u c));
+        goes = going t old c u (Exit i) (λ _. 0) granted h ends stands some;
         granted = λ d j v name. refl;
       },
     )
+
+pub passing : (t : Table) (old : Ledger) → IsSound t old → (c u b : ℕ) → u < length t.ends → end_of t u ≡ Balancer b → 1 ≤ old.standing u c
+    → (new : Ledger) × Passes t old new c u b
+passing t old sound c u b h ends stands = passing-there t old c u b h ends stands (omega (arith, standing-le-on t old sound u c))
+
+pub leaving : (t : Table) (old : Ledger) → IsSound t old → (c u i : ℕ) → u < length t.ends → end_of t u ≡ Exit i → 1 ≤ old.standing u c
+    → (new : Ledger) × Leaves t old new c u i
+leaving t old sound c u i h ends stands = leaving-there t old c u i h ends stands (omega (arith, standing-le-on t old sound u c))

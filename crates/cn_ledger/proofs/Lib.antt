@@ -8,3 +8,5 @@ pub mod Kept
 pub mod Listed
 pub mod Worked
 pub mod CallerLemmas
+pub mod Gaps
+pub mod Between

@@ -3,5 +3,7 @@ pub mod Events
 pub mod Grants
 pub mod WorkedNetworks
 pub mod Laws
+pub mod Gaps
+pub mod Between
 pub mod Moves
 pub mod Answers

@@ -7,7 +7,9 @@ ghost use Rattle.cn_wiring.specs.Table.{Table};
 ghost use Rattle.cn_wiring.specs.declared.end.End.TheVariants.{Balancer, Exit};
 ghost use Rattle.cn_ledger.specs.Events.{Enters, Passes, Leaves, one_at};
 ghost use Rattle.cn_ledger.specs.Grants.{Grant, ListsGrants};
-ghost use Rattle.cn_ledger.specs.Laws.{AllSound, GrantsOnce, HasFewCounts, KeepsSound, NamesDiffer, NobodyIsLost, StandsAt, StoodThere};
+ghost use Rattle.cn_ledger.specs.Between.{GrantsBetween};
+ghost use Rattle.cn_ledger.specs.Gaps.{IsNearShares, IsSmooth, names_missing};
+ghost use Rattle.cn_ledger.specs.Laws.{AllSound, GrantsOnce, HasFewCounts, KeepsSound, NamesDiffer, NobodyIsLost, StandsAt, StoodThere, all_inside};
 ghost use Rattle.cn_ledger.specs.Ledger.{Ledger, IsSound, IsQuiescent, IsBounded, IsTight, all_entered, empty_ledger};
 ghost use Rattle.cn_ledger.specs.WorkedNetworks.{two_wide};
 
@@ -24,6 +26,25 @@ pub fn counts_are_few()
 /// In a sound ledger those that left and those that stand on wires are all that entered.
 pub fn nobody_is_lost()
     ensures { AllSound NobodyIsLost }
+{}
+
+/// In a sound ledger, so at each moment, as many of the names below the number that entered are not given yet as
+/// clients are inside. Each exit's count is its share of what entered, or less by no more than are inside; and the
+/// counts of any two exits differ by at most one more than are inside.
+pub fn as_many_names_are_missing_as_are_inside()
+    ensures names { AllSound (λ table ledger. names_missing table ledger ≡ all_inside table ledger) }
+    ensures counts { AllSound IsNearShares }
+    ensures smooth { AllSound (λ table ledger. IsSmooth (all_inside table ledger + 1) table ledger) }
+{}
+
+/// From one tight ledger to a later one, in which no grant of it is lost, the names that are granted are those from the
+/// number that had entered to one less than the number that has entered now, each once.
+pub fn tight_ledgers_grant_what_entered_between()
+    ensures { (table : Table) (old new : Ledger) → IsTight table old → IsTight table new
+        → all_entered table old ≤ all_entered table new
+        → ((client exit visit name : ℕ)
+        → old.granted client exit visit name ≤ new.granted client exit visit name)
+        → GrantsBetween table old new }
 {}
 
 /// In a sound ledger two grants of one name are one grant, and it was made once.

@@ -12,6 +12,7 @@ use Rattle.cn_floor.proofs.InStates.Bounds.{few-came}
 use Rattle.cn_floor.proofs.InStates.Fresh.{load-bound-few}
 use Rattle.cn_floor.proofs.InStates.Sweeps.{lists-after-on}
 use Rattle.cn_floor.proofs.InLane.Alone.{nobody-else, off-own}
+use Rattle.cn_floor.proofs.InLane.Counted.{walked-steps}
 use Rattle.cn_floor.proofs.InLane.Yards.{nobody-there}
 
 -- if nobody stands on any wire, who comes in stands alone
@@ -171,6 +172,7 @@ module _ (start : Start) (client entry exit visit : ℕ) (v w : View) (began : I
         grants = more;
         seen = all.seen;
         loads = all.loads;
+        steps = walked-steps start client entry exit visit v w began.network is;
         low = name-low;
         in_state = stood;
       }

@@ -9,7 +9,7 @@ use Rattle.cn_floor.specs.Laws.{ledger_at}
 use Rattle.cn_floor.specs.Rule.{FloorState, KeepsRule}
 use Rattle.cn_floor.proofs.InStates.Totals.{part-le}
 
-no-grant : Grant
+pub no-grant : Grant
 no-grant = record { client = 0; exit = 0; visit = 0; name = 0 }
 
 none-last : (a b c : Bool) → (a && (b && (c && false))) ≡ false
@@ -33,7 +33,7 @@ module _ (start : Start) (s : FloorState) (kept : KeepsRule start s) (id : ℕ) 
   is_same g x = eqb x.client g.client && (eqb x.exit g.exit && (eqb x.visit g.visit && eqb (x.name + m) (g.name + m)))
 
   -- each grant of the lane is in the ledger
-  made : (j : ℕ) → j < length v.grants → 1 ≤ l.granted (grant j).client (grant j).exit (grant j).visit ((grant j).name + m)
+  pub made : (j : ℕ) → j < length v.grants → 1 ≤ l.granted (grant j).client (grant j).exit (grant j).visit ((grant j).name + m)
   made j low =
       let g : Grant = grant j in
       let one : ◌≡◌ {A = ℕ} (cond (is_same g g) 1 0) 1 =

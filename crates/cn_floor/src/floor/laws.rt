@@ -1,12 +1,25 @@
 //! The laws of a floor. Each function does nothing: its contract is the law, and a caller opens it by a call. They
 //! speak of each state that keeps the floor's rule, and each step of a lane is from such a state to such a state.
 
-ghost use Rattle.std.specs.Prelude.{◌+◌, ◌≤◌};
+ghost use Rattle.std.specs.Prelude.{◌≡◌, ℕ, ◌+◌, ◌++◌, ◌≤◌, [], List, length};
+ghost use Rattle.cn_wiring.specs.declared.end.End.{End};
+ghost use Rattle.cn_ledger.specs.declared.moved.Moved.{Moved};
+ghost use Rattle.cn_ledger.specs.Events.{Enters};
+ghost use Rattle.cn_ledger.specs.Gaps.{IsNearShares, IsSmooth};
 ghost use Rattle.cn_ledger.specs.Laws.{GrantsOnce, NamesDiffer};
 ghost use Rattle.cn_ledger.specs.Ledger.{IsBounded, IsSound, IsTight, Ledger};
 ghost use Rattle.cn_floor.specs.Ends.{NobodyInside};
 ghost use Rattle.cn_floor.specs.Laws.{HasFewWords, HasWalked, HoldsLowNames, InEachState, InEachView, NamesOnce, NumbersDiffer, TakesItsSteps, VisitsGoOn, entered_at, ledger_at};
-ghost use Rattle.cn_floor.specs.Rule.{IsReached, IsStart};
+ghost use Rattle.cn_floor.specs.Consistent.{IsQuiescentlyConsistent};
+ghost use Rattle.cn_floor.specs.EntersAll.{EnterInTurn};
+ghost use Rattle.cn_floor.specs.GoesOn.{GoesOn};
+ghost use Rattle.cn_floor.specs.History.{Event, LeadsTo};
+ghost use Rattle.cn_floor.specs.Steps.{IsAtomicStep};
+ghost use Rattle.cn_floor.specs.Sweeps.{GoInTurn};
+ghost use Rattle.cn_floor.specs.declared.view.View.{View};
+ghost use Rattle.cn_ledger.specs.Moves.{IsMoveOf};
+ghost use Rattle.cn_floor.specs.Missing.{inside_at, names_missing_at};
+ghost use Rattle.cn_floor.specs.Rule.{IsReached, IsStart, ledger_of};
 ghost use Rattle.cn_floor.specs.Views.{base};
 ghost use Rattle.cn_spec.specs.declared.limits.TheConstants.{MOST_TAKEN};
 
@@ -88,6 +101,50 @@ impl<'a> Floor<'a> {
     /// No answer that a lane was given is more than the number that came in.
     pub fn answers_stay_true(&self)
         ensures { InEachView self.now.start (λ start s v. base start + v.seen ≤ entered_at start s) }
+    {}
+
+    /// At each moment as many of the names below the number of clients that came in are not granted yet as clients are
+    /// inside. Each exit's count is its share of the clients that ever came, or less by no more than are inside; and the
+    /// counts of any two exits differ by at most one more than are inside.
+    pub fn as_many_names_are_missing_as_are_inside(&self)
+        ensures names { InEachState self.now.start (λ start s. names_missing_at start s ≡ inside_at start s) }
+        ensures counts { InEachState self.now.start (λ start s. IsNearShares start.network.table (ledger_at start s)) }
+        ensures smooth { InEachState self.now.start (λ start s. IsSmooth (inside_at start s + 1) start.network.table
+            (ledger_at start s)) }
+    {
+        self.start_laws();
+    }
+
+    /// The floor is quiescently consistent: from one moment with nobody inside to a later one, with m clients entered
+    /// before and n since, the names that are granted are m to n - 1, each once. These are names of the ledger of all
+    /// clients: those of the floor are less by the number that came before it.
+    pub fn names_are_quiescently_consistent(&self)
+        ensures { IsQuiescentlyConsistent self.now.start.network.table
+            (ledger_of self.now.start.network.table self.now.start.words self.now.start.words []) }
+    {
+        self.start_laws();
+    }
+
+    /// What happens on a floor goes on: the events of an atomic step lead from the ledger of the state before it to that
+    /// of the state after it, and histories can be joined. An entry and a move are one event, a list that comes in and a
+    /// sweep are one for each client.
+    pub fn histories_go_on(&self)
+        ensures enters { (v w : View) (client entry : ℕ) (step : IsAtomicStep self.now.start v w
+            (λ l m. Enters self.now.start.network.table l m client entry))
+            → GoesOn self.now.start step.old step.new 1 }
+        ensures moves { (v w : View) (client : ℕ) (answer : Moved) (step : IsAtomicStep self.now.start v w
+            (λ l m. IsMoveOf self.now.start.network.table (base self.now.start) l m client answer))
+            → GoesOn self.now.start step.old step.new 1 }
+        ensures lists { (v w : View) (clients : List ℕ) (entry : ℕ) (step : IsAtomicStep self.now.start v w
+            (EnterInTurn self.now.start.network.table clients entry 0 (length clients)))
+            → GoesOn self.now.start step.old step.new (length clients) }
+        ensures sweeps { (v w : View) (wire : ℕ) (end : End) (first : ℕ) (tokens : List (ℕ × ℕ))
+            (step : IsAtomicStep self.now.start v w (GoInTurn self.now.start.network.table wire end first tokens))
+            → GoesOn self.now.start step.old step.new (length tokens) }
+        ensures joined { (before after : List Event) (first second third : Ledger)
+            → LeadsTo self.now.start.network.table before first second
+            → LeadsTo self.now.start.network.table after second third
+            → LeadsTo self.now.start.network.table (after ++ before) first third }
     {}
 
     /// If nobody is inside, the ledger of all that ever came is tight: each exit has let out its share, and the names

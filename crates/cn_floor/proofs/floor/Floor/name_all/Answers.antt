@@ -1,4 +1,4 @@
-use Rattle.std.proofs.Common.{◌≡◌, ℕ, ◌+◌, ◌==◌, List, [], ◌++◌, count_by, length, replicate, arith, sym, ap, ◌∙◌, subst, length-append}
+use Rattle.std.proofs.Common.{◌≡◌, ℕ, ◌+◌, ◌*◌, ◌==◌, List, [], ◌++◌, count_by, length, replicate, arith, sym, ap, ◌∙◌, subst, length-append}
 use Rattle.std.proofs.Math.Seq.{take-length}
 use Rattle.std.proofs.lemmas.List.{nil_from_length}
 use Rattle.cn_floor.proofs.Common.{FloorValue, LaneValue, Lists, Network, Start, StoodInState, View, lane_of, on, tokens_in}
@@ -8,8 +8,10 @@ use Rattle.cn_floor.specs.Rule.{FitsLanes}
 use Rattle.cn_floor.proofs.AtClose.Rises.{all-empty}
 use Rattle.cn_floor.proofs.InLane.Listed.Groups.{placed-many}
 use Rattle.cn_floor.proofs.InLane.Listed.CameIn.{all-clients, came-once, nobody-stands}
+use Rattle.cn_floor.proofs.InLane.Counted.{together-deep, together-steps}
 use Rattle.cn_floor.proofs.InLane.InTurn.{walk-together}
 use Rattle.cn_floor.proofs.InLane.Lanes.{lane-with-way}
+use Rattle.cn_floor.proofs.InLane.Yards.{nobody-in}
 use Rattle.cn_floor.proofs.floor.Floor.name_all.Goals as goal
 
 pub come_in-requires-clause-out : goal.come_in-requires-clause-out
@@ -98,13 +100,20 @@ returns-clause-ok c =
     let own : v.start ≡ old.home.start = ap (λ (l : LaneValue). l.home.start) held in
     let stood : length (on w.tokens c.args.entry) ≡ k = ap length came.there ∙ placed-many clients 0 1 k in
     let (more, grew, theirs) = left.grants in
+    let nobody : tokens_in v.tokens ≡ 0 =
+    sym (ap tokens_in c.lane.invariant.tokens) ∙ ap (λ (l : LaneValue). tokens_in l.yard.lists) held ∙ c.requires.out in
+    let out : tokens_in x.tokens ≡ 0 =
+    ap tokens_in (nobody-stands v w x clients c.args.entry k came left) ∙ nobody-in (length v.tokens) in
+    let many : length x.grants ≡ length v.grants + k =
+    ap length grew ∙ length-append w.grants more ∙ (λ i. length (came.grants i) + (theirs.as_many ∙ stood) i) in
+    let walk = walk-together c.args.self.now.start clients c.args.entry v w x c.come_in.ensures.step c.pass_all.ensures.swept in
     record {
       home = (λ i. record {
         table = (c.pass_all.ensures.seat.0 ∙ c.come_in.ensures.seat.0) i;
         start = (left.start ∙ came.start) i;
       }) ∙ ap (λ (l : LaneValue). l.home) held;
       walked = subst (λ (z : Start × View). WalkTogether z.0 clients c.args.entry z.1 x) (λ i. (began i, view i))
-          (walk-together c.args.self.now.start clients c.args.entry v w x c.come_in.ensures.step c.pass_all.ensures.swept);
+          walk;
       quota = omega (arith, came.quota, left.quota, ap (λ (y : View). y.quota) view);
       entries = left.entries ∙ came.entries ∙ (λ i. (view i).entries ++ replicate k c.args.entry);
       came = left.came ∙ came.came ∙ (λ i. (view i).came ++ by_one_entry c.args.entry (take-length clients i));
@@ -114,6 +123,18 @@ returns-clause-ok c =
         grew ∙ (λ i. (came.grants ∙ ap (λ (y : View). y.grants) view) i ++ more),
         theirs.as_many ∙ stood,
         λ client. theirs.as_often client ∙ ap (count_by (λ e. e.1 == client)) came.there ∙ all-clients clients client,
+      );
+      enough_steps = λ some. omega (
+        arith,
+        together-deep c.args.self.now.start clients c.args.entry k v x c.start_laws.ensures.network walk nobody out many some,
+        ap (λ (y : View). y.steps) view,
+        ap (λ (s : Start). s.network.depth) began,
+      );
+      few_steps = omega (
+        arith,
+        together-steps c.args.self.now.start clients c.args.entry k v x c.start_laws.ensures.network walk nobody out many,
+        ap (λ (y : View). y.steps) view,
+        ap (λ (s : Start). (s.network.depth + 1) * k) began,
       );
       in_state = λ some. subst (λ (s : Start). StoodInState s x) (came.start ∙ own) (left.in_state (omega (arith, some, stood)));
       yard = ap (λ (l : LaneValue). l.yard) held;

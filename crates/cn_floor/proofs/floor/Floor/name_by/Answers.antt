@@ -69,6 +69,7 @@ returns-clause-ok g c =
       grants = is.grants ∙ (λ x. (view x).grants ++ record { client = is.who x; exit = grant.exit; visit = grant.visit; name = grant.name }
           ∷ []);
       seen = is.seen ∙ ap (λ (x : View). x.seen) view;
+      steps = omega (arith, is.steps, ap (λ (x : View). x.steps) view, ap (λ (s : Start). s.network.depth) own);
       low = omega (arith, is.low, ap (λ (s : Start). s.quota) own);
       in_state = subst (λ (s : Start). StoodInState s w) own is.in_state;
       yard = ap (λ (l : LaneValue). l.yard) held;

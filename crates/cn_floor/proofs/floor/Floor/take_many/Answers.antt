@@ -1,12 +1,14 @@
-use Rattle.std.proofs.Common.{rules, ◌≡◌, ℕ, ◌+◌, List, [], ◌++◌, length, replicate, arith, sym, ap, ◌∙◌, subst, length-append}
+use Rattle.std.proofs.Common.{rules, ◌≡◌, ℕ, ◌+◌, ◌*◌, List, [], ◌++◌, length, replicate, arith, sym, ap, ◌∙◌, subst, length-append}
 use Rattle.std.proofs.Math.Seq.{take-length}
-use Rattle.cn_floor.proofs.Common.{FloorValue, Grant, Network, Start, StoodInState, View, length-replicate, on}
+use Rattle.cn_floor.proofs.Common.{FloorValue, Grant, Network, Start, StoodInState, View, length-replicate, on, tokens_in}
 use Rattle.cn_floor.specs.InsideTaker.{taker_of}
 use Rattle.cn_floor.specs.Listed.{WalkTogether, by_one_entry}
 use Rattle.cn_floor.specs.Taking.{AreWritten, TakerValue}
 use Rattle.cn_floor.proofs.InLane.Listed.Groups.{placed-many}
 use Rattle.cn_floor.proofs.InLane.Listed.CameIn.{came-once, nobody-stands}
+use Rattle.cn_floor.proofs.InLane.Counted.{together-deep, together-steps}
 use Rattle.cn_floor.proofs.InLane.InTurn.{walk-together}
+use Rattle.cn_floor.proofs.InLane.Yards.{nobody-in}
 use Rattle.cn_floor.proofs.InLane.Taken.{written-all}
 use Rattle.cn_floor.proofs.floor.Floor.take_many.Goals as goal
 
@@ -75,13 +77,19 @@ returns-clause-ok c =
     let own : v.start ≡ old.home.start = ap (λ (t : TakerValue). t.home.start) held in
     let stood : length (on w.tokens c.args.entry) ≡ k = ap length came.there ∙ placed-many clients 0 1 k in
     let (more, grew, theirs) = left.grants in
+    let nobody : tokens_in v.tokens ≡ 0 = ap tokens_in c.taker.invariant.out ∙ nobody-in (length v.start.network.table.ends) in
+    let out : tokens_in x.tokens ≡ 0 =
+    ap tokens_in (nobody-stands v w x clients c.args.entry k came left) ∙ nobody-in (length v.tokens) in
+    let many : length x.grants ≡ length v.grants + k =
+    ap length grew ∙ length-append w.grants more ∙ (λ i. length (came.grants i) + (theirs.as_many ∙ stood) i) in
+    let walk = walk-together c.args.self.now.start clients c.args.entry v w x c.come_in.ensures.step c.pass_all.ensures.swept in
     record {
       home = (λ i. record {
         table = (c.pass_all.ensures.seat.0 ∙ c.come_in.ensures.seat.0) i;
         start = (left.start ∙ came.start) i;
       }) ∙ ap (λ (t : TakerValue). t.home) held;
       walked = subst (λ (z : Start × View). WalkTogether z.0 clients c.args.entry z.1 x) (λ i. (began i, view i))
-          (walk-together c.args.self.now.start clients c.args.entry v w x c.come_in.ensures.step c.pass_all.ensures.swept);
+          walk;
       quota = omega (arith, came.quota, left.quota, ap (λ (y : View). y.quota) view);
       entries = left.entries ∙ came.entries ∙ (λ i. (view i).entries ++ replicate k c.args.entry);
       came = left.came ∙ came.came ∙ (λ i. (view i).came ++ by_one_entry c.args.entry (take-length clients i));
@@ -92,6 +100,18 @@ returns-clause-ok c =
         written-all w.grants more _ (search rules) (omega (arith, theirs.as_many, stood))
             (subst (λ (gs : List Grant). AreWritten w.grants gs c.pass_all.new.notes) grew
             (c.pass_all.ensures.noted w.grants (record { many = omega arith; each = λ k d low. absurd (omega (arith, low)) }))),
+      );
+      enough_steps = λ some. omega (
+        arith,
+        together-deep c.args.self.now.start clients c.args.entry k v x c.network.ensures.network walk nobody out many some,
+        ap (λ (y : View). y.steps) view,
+        ap (λ (s : Start). s.network.depth) began,
+      );
+      few_steps = omega (
+        arith,
+        together-steps c.args.self.now.start clients c.args.entry k v x c.network.ensures.network walk nobody out many,
+        ap (λ (y : View). y.steps) view,
+        ap (λ (s : Start). (s.network.depth + 1) * k) began,
       );
       in_state = λ some. subst (λ (s : Start). StoodInState s x) (came.start ∙ own) (left.in_state (omega (arith, some, stood)));
     }
