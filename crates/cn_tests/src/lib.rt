@@ -3,6 +3,8 @@
 #![tactic(auto)]
 
 #[cfg(test)]
+mod at_a_gate;
+#[cfg(test)]
 mod batches;
 #[cfg(test)]
 mod carried;
@@ -30,6 +32,8 @@ mod listing;
 mod meeting;
 #[cfg(test)]
 mod performing;
+#[cfg(test)]
+mod rendering;
 #[cfg(test)]
 mod replaying;
 #[cfg(test)]
