@@ -3,8 +3,6 @@
 #![tactic(auto)]
 
 #[cfg(test)]
-mod at_a_gate;
-#[cfg(test)]
 mod batches;
 #[cfg(test)]
 mod carried;
@@ -38,6 +36,8 @@ mod rendering;
 mod replaying;
 #[cfg(test)]
 mod reports;
+#[cfg(test)]
+mod rows_at_a_gate;
 #[cfg(test)]
 mod schedules;
 #[cfg(test)]
