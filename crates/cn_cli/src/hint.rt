@@ -64,7 +64,7 @@ fn meant_by(alloc: Global, job: &str, word: &str) -> Result<Option<String>, Allo
 fn job_meant(word: &str) -> Option<&'static str> {
     match word {
         "version" => Some("For the version: renamer --version"),
-        "completions" => Some("Completions of bash, zsh and fish are below PREFIX/share"),
+        "completions" => Some("Completions of bash, zsh and fish are below share, beside bin"),
         _ => None,
     }
 }
