@@ -136,9 +136,10 @@ pub fn serve<I: Read + Drop, W: Write, G: Gate + Sync, R: Threads + Wait + Sync>
     Ok(())
 }
 
-/// Serves a batch at a gate, as [`serve`] does, or without one, as the program does; and returns the receipts of the
-/// floors: what it has written has of each epoch the counts by exit of a closed floor on which the clients of the epoch
-/// walked, and nobody else, and the names that they were granted there.
+/// Serves a batch at a gate, as [`serve`] does, or without one, as the program does unless its workers are to walk each
+/// epoch together ([`Options::walks_together`]); and returns the receipts of the floors: what it has written has of
+/// each epoch the counts by exit of a closed floor on which the clients of the epoch walked, and nobody else, and the
+/// names that they were granted there.
 ///
 /// Without a gate each epoch is walked by one worker: several that share an epoch's words wait for one another longer
 /// than they gain. So with one client in hand names follow the order of the batch by any number of workers. Epochs that

@@ -3,6 +3,8 @@
 #![tactic(auto)]
 
 #[cfg(test)]
+mod at_a_gate;
+#[cfg(test)]
 mod batches;
 #[cfg(test)]
 mod carried;
