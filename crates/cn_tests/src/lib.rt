@@ -17,6 +17,8 @@ mod cuts;
 #[cfg(test)]
 mod emitting;
 #[cfg(test)]
+mod failing;
+#[cfg(test)]
 mod fault_lines;
 #[cfg(test)]
 mod grants;
@@ -38,8 +40,6 @@ mod rendering;
 mod replaying;
 #[cfg(test)]
 mod reports;
-#[cfg(test)]
-mod rows_at_a_gate;
 #[cfg(test)]
 mod schedules;
 #[cfg(test)]

@@ -16,10 +16,10 @@ use std::sync::Wait;
 use std::test::Fail;
 use std::thread::Threads;
 
-/// One worker, whose batch one thread reads.
+/// One worker.
 pub(super) const ONE_WORKER: Asked = (Kind::Tree, 2, 1, 1);
 
-/// Two workers, whose batch two threads read.
+/// Two workers.
 pub(super) const TWO_WORKERS: Asked = (Kind::Tree, 2, 2, 1);
 
 /// Full epochs from 1 on, of which each client comes once in all, and this end.
