@@ -117,11 +117,11 @@ const DEEDS = [
 // What is shown in the last stop and after it. One client comes by each entry of bitonic 8, which has 8 entries, 24
 // balancers and 8 exits: so two pass each balancer, and each adds to an entry, six balancers and an exit.
 const LOADS = [
-    ["stop 6", () => openStop(6), "task", /^Stop 6 of 6\. To one counter all clients add one after another: it is one/],
+    ["stop 6", () => openStop(6), "task", /^Stop 6 of 6\. One counter is one word of memory: all clients add to it,/],
     ["its bars", () => {}, "loads",
         /^One counter: 8 of 8 clients add to its only word\.This network: 1 of 8 add to the busiest of its 40 words, /],
     ["stop 6 is done", () => press("w"), "task",
-        /^Stop 6 of 6\. One counter's word got 8 of 8 clients, the busiest word here 2 of 8\. .* added to 8 words\. /],
+        /^Stop 6 of 6\. To one counter's word 8 of 8 clients added, to the busiest .* 2 of 8\. .* added to 8 words\. /],
     ["its bars then", () => {}, "loads", /^One counter: 8 of 8 clients .* network: 2 of 8 .*, that of balancer 0\.$/],
     ["one more", () => press("e"), "loads", /^One counter: 9 of 9 clients .* network: 2 of 9 /],
     ["a tree", () => { choose("kind", "tree"); click("#loads-seen"); press("m"); }, "loads",
@@ -164,7 +164,7 @@ async function wrongLoads() {
     const shareOf = it => parseFloat(it.style.getPropertyValue("--share"));
     const isRight = (it, at) => shareOf(it) === 100 * (counts[`balancer ${at}`] ?? 0) / 40;
     const wrong = said("loads").includes(`network: ${most} of 40 add`) ? [] : [`not ${most}: ${said("loads")}`];
-    return boxes.length === 24 && boxes.every(isRight) ? wrong : [...wrong, "a balancer has the colour of another load"];
+    return boxes.length === 24 && boxes.every(isRight) ? wrong : [...wrong, "a balancer has the colour of another"];
 }
 
 // What a stop shows beside its network ends with the stop.

@@ -93,8 +93,8 @@ function wrongColours(isDark) {
 
 // On paper there are no buttons, and the network is whole.
 function wrongPrint() {
-    const seen = ["four", "controls", "load", "would"].filter(id => isSeen(element(id))), frame = element("frame");
-    const wrong = seen.map(id => `${id} is printed`);
+    const seen = ["four", "controls", "load", "would", "wider"].filter(id => isSeen(element(id)));
+    const frame = element("frame"), wrong = seen.map(id => `${id} is printed`);
     if (!isSeen(element("network")) || frame.scrollWidth > frame.clientWidth + 2) wrong.push("the network is cut");
     if (element("answers").scrollWidth > element("answers").clientWidth) wrong.push("the answers are cut");
     if (luminance(getComputedStyle(document.body).backgroundColor) < 0.9) wrong.push("paper is not white");

@@ -1,4 +1,5 @@
 """What is wrong with docs/walk.html in a browser, through its document: walk_deeds.js has what is done there."""
+import itertools
 import json
 import pathlib
 
@@ -76,9 +77,9 @@ class Trials:
         self.browser.call("Page.removeScriptToEvaluateOnNewDocument", identifier=number)
 
     def print(self):
-        for scheme in ("light", "dark"):
+        for scheme, stop in itertools.product(("light", "dark"), (5, 6)):
             self.open(prefers_color_scheme=scheme, **SHEET)
-            self.browser.value("openStop(5)")
+            self.browser.value(f"openStop({stop})")
             self.browser.print_media(True)
             self.wrong += [f"print: {it}" for it in self.browser.value("wrongPrint()")]
             self.browser.print_media(False)

@@ -23,7 +23,7 @@ class Drawing {
         this.counts = [...svg.querySelectorAll(".count")];
         this.stairs = [...svg.querySelectorAll(".stair")];
         // Of words, in the order that loadsOf has.
-        this.words = [".entry .body", ".box", ".behind"].flatMap(it => [...svg.querySelectorAll(it)]);
+        this.words = [".entry .body", ".box", ".exit-box"].flatMap(it => [...svg.querySelectorAll(it)]);
         this.tokens = new Tokens(svg.querySelector("#tokens"), wiring, places);
     }
 
@@ -81,7 +81,7 @@ class Drawing {
         const {places} = this, {font, right} = places;
         return this.wiring.exitWires.map((wire, exit) => {
             const words = places.exitWords(exit), width = places.room(words) + 0.6 * font, y = places.wireY(wire);
-            return `<rect class="behind" x="${right + 0.3 * font}" y="${y - 0.8 * font}" width="${width}" `
+            return `<rect class="exit-box" x="${right + 0.3 * font}" y="${y - 0.8 * font}" width="${width}" `
                 + `height="${1.6 * font}" rx="3"/>${text(right + 0.6 * font, y, words, 'class="exit"')}`;
         });
     }

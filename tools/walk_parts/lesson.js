@@ -47,7 +47,7 @@ const LESSON = [
     },
     {
         title: "why", network: "bitonic-8", schedule: enters(8, 101, at => at).join(),
-        task: "To one counter all clients add one after another: it is one word of memory. Here each entry, balancer"
+        task: "One counter is one word of memory: all clients add to it, one after another. Here each entry, balancer"
             + " and exit has a word of its own. Press walk all: how many add to the busiest?",
         isDone: isQuiet, shows: "loads-seen",
         done: loadWords,

@@ -15,9 +15,9 @@ const busiestOf = loads => loads.reduce((a, b) => b.count > a.count ? b : a);
 // The last stop's numbers, when all have left.
 function loadWords({floor}) {
     const loads = loadsOf(floor), all = floor.clients.size, added = loads.reduce((sum, {count}) => sum + count, 0);
-    return `One counter's word got ${all} of ${all} clients, the busiest word here ${busiestOf(loads).count} of ${all}.`
-        + ` For that each client added to ${added / all} words. In a tree all add to one, that of its only entry, as to`
-        + " one counter.";
+    return `To one counter's word ${all} of ${all} clients added, to the busiest word here ${busiestOf(loads).count}`
+        + ` of ${all}. The price: each client added to ${added / all} words. In a tree all add to one, the word of its`
+        + " only entry, as to one counter.";
 }
 
 // One counter and the network, one below the other, each with a bar as long as the share of clients that add to its
