@@ -53,7 +53,11 @@ module _ {R : Type 0} (remaining : R → Option (List ℕ)) (heading : Heading) 
     module _ (new : Reader R) (fields : Record) (read : HasRead remaining new text (t.records ++ fields ∷ [])) where
       -- it was read, and none after it
       pub read-last : HasReadTo remaining new text g.next
-      read-last = record { records = t.records ++ fields ∷ []; read = read; last = omega (arith, many, length-append t.records (fields ∷ [])) }
+      read-last = record {
+        records = t.records ++ fields ∷ [];
+        read = read;
+        last = omega (arith, many, length-append t.records (fields ∷ []));
+      }
 
       -- it has a cause
       pub refused : (cause : BatchCause) → spelled_cause bounds t.came (arrival_in heading bounds fields) ≡ Some cause
