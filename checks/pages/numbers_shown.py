@@ -95,7 +95,7 @@ MANUAL = [
     r"the two outputs of balancer 0, then those of balancer 1\b",
     r"the status is 0\.",
     r"What status 3 means\b",
-    r"cut -d, -f1,2; ",
+    r"cut -d, -f1,2 ",
     r'print \$2 "," \$1 ',
     r"UTF-16 zcat; iconv -f UTF-16 -t UTF-8\b",
     r"`0x` in a number\b",
