@@ -86,8 +86,8 @@ Depends: renamer (>= $version), python3 (>= 3.10)
 Suggests: renamer-doc
 Multi-Arch: foreign
 Section: utils
-Description: tools for renamer: columns of CSV, pictures, schedules, contention
- Numbers a column of a CSV file, draws counting networks and how clients walk
+Description: tools for renamer: CSV, pictures, schedules, contention
+ Adds a column of names to a CSV, draws counting networks and how clients walk
  through them, writes random schedules, and models how many names a network
  gives on many processors.
  .
