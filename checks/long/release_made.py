@@ -125,6 +125,12 @@ class Made:
             if f"libc6 (>= {glibc_of(self.folder / 'packages' / 'usr' / file)})\n" != depends:
                 raise Wrong(f"{package} depends on {depends}")
 
+    def programs_have_no_fixed_place(self):
+        """Each start of a program puts it to another place in memory, if the system does so."""
+        for tree in (self.tree, self.root / ARM_NAME):
+            if not re.search(r"^ +Type: +DYN ", run(["readelf", "--file-header", tree / "bin" / "renamer"]), re.M):
+                raise Wrong(f"the program of {tree.name} has one")
+
     def names_are_seen(self):
         """Debuggers find the names of functions in the shared library, and packed in that of the package."""
         packed, library = self.folder / "packed", self.folder / "names/usr/lib/x86_64-linux-gnu/librenamer.so.1"
