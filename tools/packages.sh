@@ -86,9 +86,10 @@ Depends: renamer (>= $version), python3 (>= 3.10)
 Suggests: renamer-doc
 Multi-Arch: foreign
 Section: utils
-Description: tools for renamer: pictures, schedules, contention
- Draws counting networks and how clients walk through them, writes random
- schedules, and models how many names a network gives on many processors.
+Description: tools for renamer: CSV, pictures, schedules, contention
+ Adds a column of names to a CSV, draws counting networks and how clients walk
+ through them, writes random schedules, and models how many names a network
+ gives on many processors.
  .
  It also has a check, which says whether what is installed works.
 
