@@ -42,6 +42,8 @@ class Case:
     # Whether its first read and its first write are interrupted.
     interrupted: bool = False
     by_script: bool = False
+    # The tool of tools/ that is run, if that is said, by this program.
+    tool: str | None = None
     input: str = "file"
     output: str = "file"
     errors: str = "file"
@@ -138,6 +140,8 @@ class Reader:
             case.wanted_output += f"renamer {(ROOT / 'VERSION').read_text().strip()}\n".encode()
         elif (mark, rest) == ("by", "the script"):
             case.by_script = True
+        elif mark == "by" and rest.startswith("the tool "):
+            case.tool = rest.removeprefix("the tool ")
         else:
             return self.stream(mark, rest)
         return True

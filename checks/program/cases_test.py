@@ -13,6 +13,7 @@ READ = [
     ("case a\ngrowths 5\nbytes 60\nwrites 7\nspares 2\n", {"growths": 5, "bytes": 60, "writes": 7, "spares": 2}),
     ("case a\nerror_writes 1\n", {"error_writes": 1}),
     ("case a\nby the script\n", {"by_script": True}),
+    ("case a\nby the tool x\n", {"tool": "x"}),
     ("case a\ninterrupted\n", {"interrupted": True}),
     ("case a\n< a b\n<\n<- c\\xff\\r\n", {"given": b"a b\n\nc\xff\r"}),
     ("case a\n<* 2 x\\ny\n", {"given": b"x\ny\nx\ny\n"}),
