@@ -16,7 +16,7 @@ Names = npt.NDArray[np.int64]
 # Arrays of whole numbers, texts, bytes and dates, and the objects that are these.
 _COMPARED = "iuUSM"
 _OBJECTS = str, bytes, datetime.date, np.datetime64
-# Numbers of these are none: truths and spans of time.
+# Python and numpy call these whole numbers too.
 _NO_NUMBERS = bool, np.timedelta64
 
 

@@ -56,8 +56,8 @@ def number(
     distinct clients. With `return_values` a second array says who has which name: `values[n]` is the client with the
     name n, so `values[names]` is the row. Of datetimes with a zone these are the moments, in UTC.
 
-    Raises Duplicate if a client stands twice, and TypeError if the clients are anything else, as truths, floats or
-    tuples, are not of one kind, or one is missing.
+    Raises Duplicate if a client stands twice, and TypeError if the clients are anything else, as booleans, floats or
+    tuples, or not of one kind, or one is missing.
 
     The names of at most 262,144 clients are those of one floor; those of more are of floors behind one another.
     """

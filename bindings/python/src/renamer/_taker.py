@@ -49,8 +49,8 @@ class Taker(Owned):
         """So many names by one entry, as an array of uint64 in no order that is said: all clients who are on a wire go
         on by one step, so a name costs the fewer steps the more are taken.
 
-        Raises what `take` raises, also if the count is out of range, and NoMemory if there is none for the array. Then no
-        name is taken.
+        Raises what `take` raises, also if the count is out of range, and NoMemory if there is none for the array. Then
+        no name is taken.
         """
         names = room(lib.in_range(count))
         with self._lock:
