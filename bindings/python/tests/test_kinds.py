@@ -201,7 +201,9 @@ def test_kinds_of_pandas():
 
 
 def test_rows_without_clients():
-    for none in ([], (), np.array([]), np.array([], bool), np.array([], "M8[s]"), np.array([], object), range(0)):
+    kinds = float, bool, "M8[s]", "m8[s]", "U1", "S1", object, "i4,i4", ">u2"
+    for none in ([], (), range(0), *(np.array([], kind) for kind in kinds)):
+        assert renamer.check(none) == len(renamer.run(none, none)) == 0
         names, clients = renamer.number(none, return_values=True)
         assert names.dtype == np.int64 and len(names) == len(clients) == 0
         assert renamer.name_part(none, none, share=True).counts.tolist() == []

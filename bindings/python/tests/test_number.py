@@ -181,6 +181,8 @@ def test_a_batch_has_no_bound():
     assert (renamer.run(clients) == np.arange(len(clients))).all()
     with pytest.raises(renamer.Refusal, match="^client 17 stands twice, at the places .* and 1100000$"):
         renamer.run([*clients.tolist(), 17])
+    with pytest.raises(renamer.Refusal, match="^client 7 stands twice, at the places 0 and 1$"):
+        renamer.run([7, 7, *clients.tolist()])
 
 
 @pytest.mark.parametrize("seed", range(20))

@@ -33,7 +33,9 @@ def test_public_names_are_shown_as_users_call_them():
     public = [found for found in public if isinstance(found, (type, types.FunctionType))]
     assert {found.__module__ for found in public} == {"renamer"}
     assert pickle.loads(pickle.dumps(public)) == public
-    assert typing.get_type_hints(renamer.Part)["names"] == typing.get_type_hints(renamer.number)["return"]
+    hints = {found.__name__: typing.get_type_hints(found) for found in public}
+    assert hints["Part"]["names"] == hints["first_names"]["return"].__args__[0]
+    assert hints["Quiet"]["holders"] == typing.get_type_hints(renamer.Lane.name_many)["return"]
     shown = traceback.format_exception_only(renamer.Duplicate(7, 1))
     assert shown == ["renamer.Duplicate: client 7 stands twice in epoch 1\n"]
     assert {name for name in dir(renamer) if name[0] != "_"} - {"dask", "mpi"} == set(renamer.__all__)

@@ -1,7 +1,5 @@
 """The rows of clients and names that calls take and return."""
 
-from __future__ import annotations
-
 import datetime
 from operator import index
 from typing import Any, NamedTuple
@@ -42,11 +40,13 @@ def as_clients(clients: npt.ArrayLike) -> Clients:
     Raises TypeError if they are no row of whole numbers, and OverflowError if one is out of range.
     """
     row = as_identities(clients)
+    if not len(row):
+        return np.empty(0, np.uint64)
     if row.dtype.kind == "O" and type(row[0]) is int:
         return np.fromiter(map(in_range, row), np.uint64, len(row))
     if row.dtype.kind not in "iu":
         raise TypeError(f"whole numbers from 0 to 2**64 - 1 are wanted, and not {type(row[0]).__name__}")
-    if row.dtype.kind == "i" and len(row):
+    if row.dtype.kind == "i":
         in_range(row.min())
     return np.require(row, np.uint64, ["C", "A"])
 

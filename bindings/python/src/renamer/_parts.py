@@ -4,8 +4,6 @@ That the names of each floor are 0 to k-1, each once, is proved of the library. 
 another is an addition, made here.
 """
 
-from __future__ import annotations
-
 from collections.abc import Sequence
 from typing import Any, Literal, NamedTuple, overload
 
@@ -47,8 +45,8 @@ def number(
     clients: npt.ArrayLike, *, share: bool = ..., return_values: Literal[True]
 ) -> tuple[Names, npt.NDArray[Any]]: ...
 def number(
-    clients: npt.ArrayLike, *, share: bool = False, return_values: bool = False
-) -> Names | tuple[Names, npt.NDArray[Any]]:
+    clients: "npt.ArrayLike", *, share: bool = False, return_values: bool = False
+) -> "Names | tuple[Names, npt.NDArray[Any]]":
     """Names 0 to k-1 for the k clients of a row, each once: an array of int64, as long as the row.
 
     The row is an array, a list or a Series of any length, of whole numbers, texts, bytes or dates. The client at place
@@ -78,7 +76,7 @@ def _number_distinct(wanted: npt.NDArray[Any]) -> Names:
     return count_off(len(wanted))
 
 
-def name_part(clients: npt.ArrayLike, epochs: npt.ArrayLike | None = None, *, share: bool = False) -> Part:
+def name_part(clients: "npt.ArrayLike", epochs: "npt.ArrayLike | None" = None, *, share: bool = False) -> Part:
     """Names the clients of one part of a data set, each epoch from 0 on. With `share` the records of one client in an
     epoch share its name. Both rows are as `number` takes one, and equally long.
 

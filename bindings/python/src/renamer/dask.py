@@ -41,8 +41,8 @@ def number(
     fails with RuntimeError.
 
     With `whole` each epoch stays in one partition, which is for many small ones. With `proved` each partition is named
-    by one run of the proved program, which finds duplicates too, and raises Refusal: then clients and epochs are
-    numbers from 0 to 2**64 - 1. Each worker needs this package.
+    by one run of the proved program, which finds duplicates too, and raises Refusal, with places in the partition: then
+    clients and epochs are numbers from 0 to 2**64 - 1. Each worker needs this package.
 
     Raises TypeError if this is no data frame of Dask, KeyError if it has no such columns, and ValueError if it has one
     of the name, or both `share` and `proved` are asked for. As it is computed TypeError is raised if the clients of a
