@@ -54,7 +54,7 @@ class Owned:
         _owned.add(self)
 
     # A function of C, which Ctrl-C cannot end: one of Python may end by it before it has done anything.
-    __del__ = property(attrgetter("_release"))
+    __del__ = property(attrgetter("_release"), doc="Frees what it has.")
 
     def __enter__(self: _Some) -> _Some:
         return self
