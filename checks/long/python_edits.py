@@ -59,6 +59,7 @@ EDITS = (
     (NUMBER + "any_number_of_clients", "_parts.py", "        names[first:end] += first\n", ""),
     (NUMBER + "duplicates_are_found", "_parts.py",
      "fresh[1:] = row[1:] != row[:-1]", "fresh[2:] = row[2:] != row[:-2]"),
+    (NUMBER + "duplicates_are_found", "_parts.py", "len(set(wanted)) == len(wanted)", "True"),
     (NUMBER + "parts_are_tight_together", "_parts.py", " - counts[order]", ""),
     (NUMBER + "parts_are_tight_together", "_parts.py", " - before[begins][np.cumsum(begins) - 1]", ""),
     (NUMBER + "parts_of_several_types_are_put_behind_one_another", "_parts.py", 'kind == "f"', 'kind == "c"'),

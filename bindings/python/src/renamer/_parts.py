@@ -69,6 +69,9 @@ def number(
 
 
 def _number_distinct(wanted: npt.NDArray[Any]) -> Names:
+    # A set of texts takes less than a tenth of the time of their sorting.
+    if len(wanted) and type(wanted[0]) is str and len(set(wanted)) == len(wanted):
+        return count_off(len(wanted))
     in_order = np.sort(wanted)
     fresh = _is_fresh(in_order)
     if not fresh.all():
