@@ -54,7 +54,7 @@ EDITS = (
     (KINDS + "kinds_of_pandas", "_arrays.py", "not (row == row).all()", "False"),
     (KINDS + "random_rows", "_arrays.py", "if kinds or not", "if not"),
     (KINDS + "random_rows", "_parts.py", "    values[names] = wanted\n", "    values[:] = wanted[: len(values)]\n"),
-    (KINDS + "rows_without_clients", "_arrays.py", "np.empty(0, np.int64)", "row"),
+    (KINDS + "rows_without_clients", "_arrays.py", "        return row\n    if row", "        pass\n    if row"),
     # Names, and parts.
     (NUMBER + "any_number_of_clients", "_parts.py", "        names[first:end] += first\n", ""),
     (NUMBER + "duplicates_are_found", "_parts.py",

@@ -122,7 +122,7 @@ def test_parts_of_several_types_are_put_behind_one_another():
     epochs = np.array([2**53, 2**53 + 1]), np.array([2**63], np.uint64), np.array([]), np.array([2**53 + 1])
     firsts = renamer.first_names([(some, np.ones(len(some), int)) for some in epochs])
     assert [first.tolist() for first in firsts] == [[0, 0], [0], [], [1]]
-    dates = np.array(["2026-11-29"], "M8[D]"), np.array([], object), np.array(["2026-11-29"], "M8[D]")
+    dates = np.array(["2026-11-29"], "M8[D]"), np.array([]), np.array(["2026-11-29"], "M8[D]")
     firsts = renamer.first_names([(some, np.ones(len(some), int)) for some in dates])
     assert [first.tolist() for first in firsts] == [[0], [], [1]]
     assert [first.tolist() for first in renamer.first_names([(np.array([]), np.array([], int))])] == [[]]

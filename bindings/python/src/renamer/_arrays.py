@@ -59,7 +59,7 @@ def as_identities(values: npt.ArrayLike) -> npt.NDArray[Any]:
     """
     row = _row(values)
     if not len(row):
-        return row if row.dtype.kind in _COMPARED else np.empty(0, np.int64)
+        return row
     if row.dtype.kind == "O":
         row = _of_one_kind(row)
     elif row.dtype.kind not in _COMPARED:
