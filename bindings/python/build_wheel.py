@@ -35,15 +35,18 @@ INFO = f"renamer-{VERSION}.dist-info"
 TOOL = {"renamer_number.py": ROOT / "tools" / "number",
         "number_parts/__init__.py": ROOT / "tools" / "number_parts" / "__init__.py",
         "number_parts/table.py": ROOT / "tools" / "number_parts" / "table.py"}
+LICENCES = "LICENSE", "THIRD-PARTY"
 # The oldest glibc for which pip takes wheels by a tag of this kind, and the first year of a zip file.
 OLDEST, FIRST_YEAR = 17, 315532800
 
 
 def metadata():
     """What pip reads of the package: a field on each line, and then its page."""
-    fields = [("Metadata-Version", "2.1"), ("Name", PROJECT["name"]), ("Version", VERSION),
+    fields = [("Metadata-Version", "2.4"), ("Name", PROJECT["name"]), ("Version", VERSION),
               ("Summary", PROJECT["description"]), ("License", PROJECT["license"]["text"]),
               ("Requires-Python", PROJECT["requires-python"]), ("Description-Content-Type", "text/markdown")]
+    fields += [("License-File", file) for file in LICENCES]
+    fields += [("Classifier", kind) for kind in PROJECT["classifiers"]]
     fields += [("Requires-Dist", want) for want in PROJECT["dependencies"]]
     for extra, wants in PROJECT["optional-dependencies"].items():
         fields += [("Provides-Extra", extra), *(("Requires-Dist", f'{want} ; extra == "{extra}"') for want in wants)]
@@ -79,8 +82,8 @@ def contents(binaries, name):
     scripts = "".join(f"{name} = {place}\n" for name, place in PROJECT["scripts"].items())
     yield f"{INFO}/entry_points.txt", f"[console_scripts]\n{scripts}".encode(), 0o644
     wheel = f"Wheel-Version: 1.0\nGenerator: renamer\nRoot-Is-Purelib: false\nTag: {name}\n"
-    for file in ("LICENSE", "THIRD-PARTY"):
-        yield f"{INFO}/{file}", (ROOT / file).read_bytes(), 0o644
+    for file in LICENCES:
+        yield f"{INFO}/licenses/{file}", (ROOT / file).read_bytes(), 0o644
     yield f"{INFO}/METADATA", metadata().encode(), 0o644
     yield f"{INFO}/WHEEL", wheel.encode(), 0o644
 

@@ -67,7 +67,8 @@ class Made:
         """Each archive, each package and the wheel have THIRD-PARTY, and SPDX the same list."""
         copies = [self.root / name / "THIRD-PARTY" for name in (NAME, ARM_NAME)]
         with zipfile.ZipFile(self.made / WHEEL) as wheel:
-            copies.append(pathlib.Path(wheel.extract(f"renamer-{VERSION}.dist-info/THIRD-PARTY", self.folder / "unpacked")))
+            member = f"renamer-{VERSION}.dist-info/licenses/THIRD-PARTY"
+            copies.append(pathlib.Path(wheel.extract(member, self.folder / "unpacked")))
         for name in PACKAGES:
             run(["dpkg-deb", "--extract", self.made / name, self.folder / "unpacked"])
             copies.append(self.folder / "unpacked" / "usr/share/doc" / name.partition("_")[0] / "copyright")
