@@ -1,4 +1,5 @@
 -- Lemmas on what is read.
+pub mod Ahead
 pub mod BatchRecords
 pub mod ClippedAnswers
 pub mod ClippedPieces
@@ -12,6 +13,6 @@ pub mod RecordLists
 pub mod Results
 pub mod ScheduleRecords
 pub mod ServableEpochs
-pub mod Taking
+pub mod Stretches
 pub mod Told
 pub mod UniqueBatch

@@ -4,13 +4,13 @@ mod arrival;
 mod arrivals;
 mod gathering;
 
-ghost use Rattle.std.specs.Prelude.{◌≡◌, ◌<◌, ◌≤◌, ◌+◌, ◌⊎◌, [], ℕ, IfErr, IfOk, IfSome, List, MatchResult, false};
+ghost use Rattle.std.specs.Prelude.{◌≡◌, ◌<◌, ◌≤◌, [], ℕ, IfErr, IfOk, IfSome, List, MatchResult, false};
 ghost use Rattle.cn_spec.specs.declared.limits.TheConstants.{MOST_RECORDS};
-ghost use Rattle.cn_report.specs.Reading.Batch.{AnswersBatch, AreServable, IsBatch, IsBatchFault, IsOfReading, clients_of_epochs};
+ghost use Rattle.cn_report.specs.Reading.Batch.{AnswersBatch, AreServable, IsBatch, IsBatchFault, clients_of_epochs};
 ghost use Rattle.cn_report.specs.Reading.Bounds.{AreBounds, bounds_of};
 ghost use Rattle.cn_report.specs.Reading.Gathered.{IsGathered, StaysServable};
 ghost use Rattle.cn_report.specs.Reading.Records.{HasStopped, records_of};
-ghost use Rattle.cn_report.specs.Reading.Taken.{HasHeader, HasReadTo, IsOpen};
+ghost use Rattle.cn_report.specs.Reading.Stretch.{HasHeader, IsOpen};
 ghost use Rattle.cn_report.specs.declared.reading.records.RecordFault.TheVariants as no_record;
 
 use crate::reading::batch::arrivals::ArrivalReader;
@@ -22,6 +22,10 @@ use cn_ledger::Client;
 use std::alloc::Global;
 use std::hash::RandomState;
 use std::io::Read;
+
+/// How many records are read at most after one, before all of them are gathered: look-ups that follow one another at
+/// once take less time than look-ups between reads.
+const LATER: u64 = 63;
 
 /// The epochs of a batch.
 #[derive(Debug, Drop)]
@@ -39,7 +43,7 @@ pub struct BatchEpoch {
     pub clients: Vec<Client>,
 }
 
-/// The epochs of a batch of which the header was read. Each record is judged before the next is asked for.
+/// The epochs of a batch of which the header was read.
 fn read_epochs<I: ReadTelling + Drop>(
     alloc: Global,
     source: &mut ArrivalReader<I>,
@@ -51,26 +55,28 @@ fn read_epochs<I: ReadTelling + Drop>(
     ensures answer { (text : List ℕ) → HasHeader I.remaining source.old text
         → MatchResult result (λ epochs. IsBatch source.old.bounds (records_of text) epochs.items)
         (IsBatchFault source.old.bounds (records_of text)) }
-    ensures last { IfErr result (λ fault. (text : List ℕ) → HasHeader I.remaining source.old text
-        → HasReadTo I.remaining source.new.records.value text fault.at ⊎ IsOfReading fault.cause) }
-    ensures soon { IfErr result (λ fault. fault.at ≤ source.old.bounds.records + 1) }
     ensures fits { IfOk result (λ epochs. AreServable source.old.bounds epochs.items) }
     ensures few { IfOk result (λ epochs. clients_of_epochs epochs.items ≤ source.old.bounds.records) }
     ensures told { IfErr result (λ fault. fault.cause ≡ BatchCause.Read
         → HasStopped I.failed source.new.records.value no_record.Read) }
 {
+    let bounds = source.bounds();
     let mut gathering = gathering;
+    let mut stretch = Vec::new(alloc);
     loop {
-        let at = gathering.next();
-        let taken = match source.next_arrival() {
-            Ok(taken) => taken,
-            Err(cause) => return Err(BatchFault { at, cause }),
+        // The record too many is the last that is read.
+        let left = bounds.records - (gathering.next() - 1);
+        let end = source.read_stretch(1 + LATER.min(left), &mut stretch);
+        gathering.gather(alloc, bounds, &stretch)?;
+        let others = match end {
+            Ok(others) => others,
+            Err(cause) => {
+                let at = gathering.next();
+                return Err(BatchFault { at, cause });
+            }
         };
-        let Some(arrival) = taken else {
+        if !others {
             return gathering.finish(alloc);
-        };
-        if let Err(cause) = gathering.add(alloc, source.bounds(), arrival) {
-            return Err(BatchFault { at, cause });
         }
     }
 }

@@ -1,11 +1,11 @@
-use Rattle.cn_report.proofs.Common.{arith, inl, refl}
-use Rattle.std.proofs.lemmas.Result.{IfOk-weaker}
-use Rattle.cn_report.proofs.ReadingLemmas.Results.{if_err-map}
-use Rattle.cn_report.proofs.ReadingLemmas.Taking.{adding-fault, after-header, read-last, reading-fault, reading-last, same-header, taken-more}
+use Rattle.cn_report.proofs.Common.{◌≡◌, ◌∙◌, arith, false, Ok, refl}
+use Rattle.std.proofs.lemmas.Result.{IfOk-weaker, err_from_is_err_and}
+use Rattle.cn_report.proofs.ReadingLemmas.Ahead.{after-header, at-end, goes-on, next-ahead, next-fault, same-header, stretch-fault}
+use Rattle.cn_report.proofs.ReadingLemmas.Told.{read-stops}
 use Rattle.cn_report.proofs.reading.batch.read_epochs.Goals as goal
 
-pub loop-taken-init : goal.loop-taken-init
-loop-taken-init g c =
+pub loop-stretch-init : goal.loop-stretch-init
+loop-stretch-init g c =
     let source = c.args.source.now in record {
       plain = c.requires.open.plain;
       same = record { heading = refl {a = source.heading}; bounds = refl {a = source.bounds} };
@@ -15,98 +15,98 @@ loop-taken-init g c =
           header.heads c.requires.none;
     }
 
-pub next_arrival-requires : goal.next_arrival-requires
-next_arrival-requires g c =
-    let was = c.loop-taken.invariant in
+pub read_stretch-end-requires-clause-open : goal.read_stretch-end-requires-clause-open
+read_stretch-end-requires-clause-open g c =
+    let was = c.loop-stretch.invariant in
     record { plain = was.plain; within = rw was.same.bounds was.keeps.within }
+
+pub gather-requires : goal.gather-requires
+gather-requires g c = rw c.bounds-bounds.ensures c.loop-stretch.invariant.keeps
+
+pub returns-in_err-gather-clause-answer : goal.returns-in_err-gather-clause-answer
+returns-in_err-gather-clause-answer g c =
+    let source = c.args.source.now in
+    let now = c.loop-stretch in
+    let was = now.invariant in
+    let read = c.read_stretch-end in
+    let reported = err_from_is_err_and c.from_residual.result c.from_residual.ensures.1 in
+    let gathers = rw (c.deref.ensures.value, c.bounds-bounds.ensures) at c.in_err-gather.ensures in
+    rw (reported.1, reported.2) (λ text header.
+    stretch-fault g.I.Read.remaining source.heading source.bounds text read.new.self.records.value now.gathering
+    c.gather.new.self read.new.arrivals.items read.result
+    (next-ahead g.I.Read.remaining source.heading source.bounds text now.source read.new.self was.same.heading was.same.bounds now.gathering
+    read.new.arrivals.items read.result (was.taken text header) read.ensures.reads)
+    c.in_err-gather.field-0.0 gathers)
+
+pub returns-in_err-gather-clause-told : goal.returns-in_err-gather-clause-told
+returns-in_err-gather-clause-told g c =
+    let reported = err_from_is_err_and c.from_residual.result c.from_residual.ensures.1 in
+    rw (reported.1, reported.2) (λ is. absurd (c.in_err-gather.ensures.own is))
 
 pub returns-in-Err-clause-answer : goal.returns-in-Err-clause-answer
 returns-in-Err-clause-answer g c = λ text header.
     let source = c.args.source.now in
-    let was = c.loop-taken.invariant in
-    let t = was.taken text header in
+    let now = c.loop-stretch in
+    let was = now.invariant in
+    let read = c.read_stretch-end in
+    let gathers = rw (c.deref.ensures.value, c.bounds-bounds.ensures) at c.in_ok-gather.ensures in
     rw c.next-at.ensures
-    (reading-fault g.I.Read.remaining source.heading source.bounds text c.loop-taken.source.records.value c.loop-taken.gathering t
-    c.next_arrival.new.self.records.value c.in-Err.cause
-    (rw (was.same.heading, was.same.bounds) at (c.in-Err.ensures.refused text t.records t.read)))
+    (next-fault g.I.Read.remaining source.heading source.bounds text read.new.self.records.value now.gathering c.gather.new.self
+    read.new.arrivals.items read.result
+    (next-ahead g.I.Read.remaining source.heading source.bounds text now.source read.new.self was.same.heading was.same.bounds now.gathering
+    read.new.arrivals.items read.result (was.taken text header) read.ensures.reads)
+    gathers c.in-Err.cause c.in-Err.is)
 
-pub returns-in-Err-clause-last : goal.returns-in-Err-clause-last
-returns-in-Err-clause-last g c = λ text header.
+pub returns-in-Err-clause-told : goal.returns-in-Err-clause-told
+returns-in-Err-clause-told g c = read-stops c.in-Err.cause (rw c.in-Err.is at c.read_stretch-end.ensures.told)
+
+pub returns-then-not-others-clause-answer : goal.returns-then-not-others-clause-answer
+returns-then-not-others-clause-answer g c = λ text header.
     let source = c.args.source.now in
-    let was = c.loop-taken.invariant in
-    let t = was.taken text header in
-    rw c.next-at.ensures
-    (reading-last g.I.Read.remaining source.heading source.bounds text c.loop-taken.source.records.value c.loop-taken.gathering t
-    c.next_arrival.new.self.records.value c.in-Err.cause
-    (rw (was.same.heading, was.same.bounds) at (c.in-Err.ensures.refused text t.records t.read)))
+    let now = c.loop-stretch in
+    let was = now.invariant in
+    let read = c.read_stretch-end in
+    let gathers = rw (c.deref.ensures.value, c.bounds-bounds.ensures) at c.in_ok-gather.ensures in
+    let (all, taken, gathered) =
+    at-end g.I.Read.remaining source.heading source.bounds text read.new.self.records.value now.gathering c.gather.new.self
+    read.new.arrivals.items read.result
+    (next-ahead g.I.Read.remaining source.heading source.bounds text now.source read.new.self was.same.heading was.same.bounds now.gathering
+    read.new.arrivals.items read.result (was.taken text header) read.ensures.reads)
+    gathers (rw c.if-not-others.true at c.in-Ok.is) in
+    rw all (c.finish.ensures.answer source.heading source.bounds _ _ taken gathered)
 
-pub returns-in-Err-clause-soon : goal.returns-in-Err-clause-soon
-returns-in-Err-clause-soon g c = omega (arith, c.next-at.ensures, c.loop-taken.invariant.keeps.few)
+pub returns-then-not-others-clause-fits : goal.returns-then-not-others-clause-fits
+returns-then-not-others-clause-fits g c =
+    let keeps = rw c.bounds-bounds.ensures at c.in_ok-gather.ensures.keeps in
+    IfOk-weaker c.finish.result _ _ (λ epochs fits. fits c.args.source.now.bounds keeps) c.finish.ensures.fits
 
-pub returns-in_default-clause-answer : goal.returns-in_default-clause-answer
-returns-in_default-clause-answer g c = λ text header.
+pub returns-then-not-others-clause-few : goal.returns-then-not-others-clause-few
+returns-then-not-others-clause-few g c =
+    let keeps = rw c.bounds-bounds.ensures at c.in_ok-gather.ensures.keeps in
+    IfOk-weaker c.finish.result _ _ (λ epochs few. few c.args.source.now.bounds keeps) c.finish.ensures.few
+
+pub loop-stretch-smaller : goal.loop-stretch-smaller
+loop-stretch-smaller g c =
+    let some = rw (c.in-Ok.is, c.if-not-others.false) at c.read_stretch-end.ensures.some in
+    let next = rw c.deref.ensures.value at c.in_ok-gather.ensures.next in
+    omega (arith, some refl, next, c.loop-stretch.invariant.keeps.few)
+
+pub loop-stretch-preserved : goal.loop-stretch-preserved
+loop-stretch-preserved g c =
     let source = c.args.source.now in
-    let t = c.loop-taken.invariant.taken text header in
-    let all = rw c.in_default.is at (c.in-Ok.ensures.next text t.records t.read) in
-    rw all (c.finish.ensures.answer source.heading source.bounds _ _ t.taken t.gathered)
-
-pub returns-in_default-clause-soon : goal.returns-in_default-clause-soon
-returns-in_default-clause-soon g c =
-    if_err-map c.finish.result c.finish.ensures.memory (λ fault is. rw is (omega (arith, c.loop-taken.invariant.keeps.few)))
-
-pub returns-in_default-clause-fits : goal.returns-in_default-clause-fits
-returns-in_default-clause-fits g c =
-    IfOk-weaker c.finish.result _ _ (λ epochs fits. fits c.args.source.now.bounds c.loop-taken.invariant.keeps) c.finish.ensures.fits
-
-pub returns-in_default-clause-few : goal.returns-in_default-clause-few
-returns-in_default-clause-few g c =
-    IfOk-weaker c.finish.result _ _ (λ epochs few. few c.args.source.now.bounds c.loop-taken.invariant.keeps) c.finish.ensures.few
-
-pub add-requires : goal.add-requires
-add-requires g c =
-    let was = c.loop-taken.invariant in
-    rw (c.bounds.ensures, c.next_arrival.ensures.same.bounds, was.same.bounds) was.keeps
-
-pub returns-in-Err-add-clause-answer : goal.returns-in-Err-add-clause-answer
-returns-in-Err-add-clause-answer g c = λ text header.
-    let source = c.args.source.now in
-    let was = c.loop-taken.invariant in
-    let t = was.taken text header in
-    let (fields, read, is) = rw (c.in-Some.is, was.same.heading, was.same.bounds) at (c.in-Ok.ensures.next text t.records t.read) in
-    rw c.next-at.ensures
-    (adding-fault g.I.Read.remaining source.heading source.bounds text c.loop-taken.source.records.value c.loop-taken.gathering t
-    c.next_arrival.new.self.records.value fields read c.in-Some.arrival is c.in-Err-add.cause
-    (rw (c.bounds.ensures, c.next_arrival.ensures.same.bounds, was.same.bounds) at (c.in-Err-add.ensures.err t.came t.gathered)))
-
-pub returns-in-Err-add-clause-last : goal.returns-in-Err-add-clause-last
-returns-in-Err-add-clause-last g c = λ text header.
-    let source = c.args.source.now in
-    let was = c.loop-taken.invariant in
-    let t = was.taken text header in
-    let (fields, read, is) = rw (c.in-Some.is, was.same.heading, was.same.bounds) at (c.in-Ok.ensures.next text t.records t.read) in
-    rw c.next-at.ensures
-    (inl (read-last g.I.Read.remaining source.heading source.bounds text c.loop-taken.source.records.value c.loop-taken.gathering t
-    c.next_arrival.new.self.records.value fields read))
-
-pub returns-in-Err-add-clause-soon : goal.returns-in-Err-add-clause-soon
-returns-in-Err-add-clause-soon g c = omega (arith, c.next-at.ensures, c.loop-taken.invariant.keeps.few)
-
-pub loop-taken-smaller : goal.loop-taken-smaller
-loop-taken-smaller g c = omega (arith, c.in_default-add.ensures.next, c.loop-taken.invariant.keeps.few)
-
-pub loop-taken-preserved : goal.loop-taken-preserved
-loop-taken-preserved g c =
-    let source = c.args.source.now in
-    let was = c.loop-taken.invariant in
-    let next = c.next_arrival.ensures in
+    let now = c.loop-stretch in
+    let was = now.invariant in
+    let read = c.read_stretch-end in
+    let goes = rw c.if-not-others.false at c.in-Ok.is in
+    let gathers = rw (c.deref.ensures.value, c.bounds-bounds.ensures) at c.in_ok-gather.ensures in
     record {
-      plain = c.in-Ok.ensures.plain;
-      same = same-header _ _ _ was.same next.same;
-      keeps = rw (c.bounds.ensures, next.same.bounds, was.same.bounds) at c.in_default-add.ensures.keeps;
+      plain = rw goes at read.ensures.reads.plain;
+      same = same-header _ _ _ was.same read.ensures.reads.same;
+      keeps = gathers.keeps;
       taken = λ text header.
-          let t = was.taken text header in
-          let (fields, read, is) = rw (c.in-Some.is, was.same.heading, was.same.bounds) at (c.in-Ok.ensures.next text t.records t.read) in
-          let (none, more) = rw (c.bounds.ensures, next.same.bounds, was.same.bounds) at (c.in_default-add.ensures.ok t.came t.gathered) in
-          taken-more g.I.Read.remaining source.heading source.bounds text c.loop-taken.source.records.value c.loop-taken.gathering t
-          c.next_arrival.new.self.records.value fields read c.in-Some.arrival is c.add.new.self none more;
+          goes-on g.I.Read.remaining source.heading source.bounds text read.new.self.records.value now.gathering c.gather.new.self
+          read.new.arrivals.items read.result
+          (next-ahead g.I.Read.remaining source.heading source.bounds text now.source read.new.self was.same.heading was.same.bounds
+          now.gathering read.new.arrivals.items read.result (was.taken text header) read.ensures.reads)
+          gathers goes;
     }

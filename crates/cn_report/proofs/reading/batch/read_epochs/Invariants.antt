@@ -1,11 +1,11 @@
 use Rattle.cn_report.proofs.Common.{◌+◌, ◌-◌, ℕ, List, IsPlain}
 use Rattle.cn_report.specs.Reading.Gathered.{StaysServable}
-use Rattle.cn_report.specs.Reading.Taken.{HasHeader, HasSameHeader}
-use Rattle.cn_report.proofs.ReadingLemmas.Taking.{HasTaken}
+use Rattle.cn_report.specs.Reading.Stretch.{HasHeader, HasSameHeader}
+use Rattle.cn_report.proofs.ReadingLemmas.Ahead.{HasTaken}
 use Rattle.cn_report.proofs.reading.batch.read_epochs.Given as goal
 
-abbrev pub invariant-loop-taken : goal.invariant-loop-taken
-invariant-loop-taken g l = record {
+abbrev pub invariant-loop-stretch : goal.invariant-loop-stretch
+invariant-loop-stretch g l = record {
   plain : IsPlain l.source.records.value;
   same : HasSameHeader l.fn.source l.source;
   keeps : StaysServable l.fn.source.bounds l.gathering;
@@ -13,5 +13,5 @@ invariant-loop-taken g l = record {
       → HasTaken g.I.Read.remaining l.fn.source.heading l.fn.source.bounds text l.source.records.value l.gathering;
 }
 
-abbrev pub decreases-loop-taken : goal.decreases-loop-taken
-decreases-loop-taken g l = l.fn.source.bounds.records + 2 - l.gathering.next
+abbrev pub decreases-loop-stretch : goal.decreases-loop-stretch
+decreases-loop-stretch g l = l.fn.source.bounds.records + 2 - l.gathering.next
