@@ -1,10 +1,10 @@
 #!/usr/bin/env python3
 """Draws as SVG what tables of pages say, so that no picture differs from its page.
 
-    bench/plots.py large|scale   prints a picture: bench/README.md has the table of the first one, docs/SCALE.md
-                                         those of the third
-    bench/plots.py --check               prints the file of each picture that is not what its page says; the status is 0
-                                         only if there is none
+    bench/plots.py large|library|scale   prints a picture: of tables in bench/README.md, or the last in docs/SCALE.md
+    bench/plots.py --check               prints each picture that is not what its page says
+
+The status of a check is 0 only if each picture is what its page says.
 """
 import argparse
 import dataclasses
@@ -22,6 +22,10 @@ MEASURES, SCALE = ROOT / "bench" / "README.md", ROOT / "docs" / "SCALE.md"
 # Of a picture of bars, which is read on a telephone too: its width, where bars begin, how long the longest is, a line.
 WIDE, LEFT, LONGEST, LINE = 440, 196, 176, 24
 OURS, PEERS = "#0b4f8a", "#8694a6"
+# What is in the plot of the library, from its table: the ways of all threads, and those that are of one thread only.
+LIBRARY = ("one `fetch_add`", "tree 2", "tree 2 by lists of 64", "tree 2 by takes of 64", "bitonic 64",
+           "`Mutex<HashMap>`", "`slab` behind a mutex", "`sharded_slab`", "`fetch_add` for 64 names",
+           "`fetch_add` and an array", "`Mutex<Vec>`", "`tbb::concurrent_vector`")
 
 
 @dataclasses.dataclass
@@ -69,10 +73,11 @@ def bars(title, panels):
     for heading, found in panels:
         found = list(found)
         parts += panel(heading, found, top)
-        said.append(f"{heading}: " + "; ".join(f"{bar.name} {bar.said}" for bar in found) + ".")
+        said.append(f"{heading}: {'; '.join(f'{bar.name} {bar.said}' for bar in found)}.")
         top += 34 + LINE * len(found)
     return "\n".join([
-        f'<svg xmlns="http://www.w3.org/2000/svg" role="img" width="{WIDE}" height="{top}" viewBox="0 0 {WIDE} {top}">',
+        f'<svg xmlns="http://www.w3.org/2000/svg" role="img" width="{WIDE}" height="{top}" '
+        f'viewBox="0 0 {WIDE} {top}">',
         f"<title>{escape(title)}</title>", f"<desc>{escape(' '.join(said))}</desc>",
         '<style>text { font: 13px "DejaVu Sans", Verdana, Arial, sans-serif; fill: #1d2733 }',
         ".title { font-weight: bold } .name { text-anchor: end }</style>",
@@ -89,6 +94,19 @@ def large():
 
     found = bars_of("10 million", table(MEASURES, "One large epoch"), bar)
     return bars("Ten million ids by renamer (blue) and by others", [("Seconds of processor (by the clock)", found)])
+
+
+def library():
+    """What a name takes in the library, in nanoseconds."""
+    def bar(name, values):
+        return Bar(name, float(values[0]), f"{values[0]} ns")
+
+    rows = [row for row in table(MEASURES, "The library") if row["Way"] in LIBRARY]
+    if len(rows) != len(LIBRARY):
+        sys.exit(f"{MEASURES.relative_to(ROOT)} has {len(rows)} of the {len(LIBRARY)} ways that are drawn")
+    panels = (("One thread, of its processor", "One thread"), ("Four threads, by the clock", "Four"))
+    return bars("A name by renamer (blue) and by others",
+                [(title, bars_of(column, rows, bar)) for title, column in panels])
 
 
 def scale():
@@ -108,6 +126,7 @@ def scale():
 
 
 PICTURES = {"large": (large, ROOT / "docs" / "pictures" / "large.svg"),
+            "library": (library, ROOT / "docs" / "pictures" / "library.svg"),
             "scale": (scale, ROOT / "docs" / "scale.svg")}
 
 

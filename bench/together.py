@@ -2,8 +2,8 @@
 """What `renamer run --together` takes, by which all workers walk each epoch on one network, beside a run by one worker.
 
 One, two and four workers on the full batch, 16 epochs of 65,536 clients with random identities and entries, on the
-trees and the bitonic networks of width 2 and 64, with one client in hand and with 64: five runs each, by the clock and in
-processor time. The peer is the same run by one worker without the option.
+trees and the bitonic networks of width 2 and 64, with one client in hand and with 64: five runs each, by the clock and
+in processor time. The peer is the same run by one worker without the option.
 """
 import functools
 import itertools
