@@ -18,7 +18,7 @@ _renamer() {
         help) words='run replay check show' ;;
         *)
             case ${COMP_WORDS[1]} in
-                run) words=' --network --width --workers --hand --form --carry --large --help ' ;;
+                run) words=' --network --width --workers --hand --form --carry --large --together --help ' ;;
                 replay | show) words=' --network --width --help ' ;;
                 check) words=' --width --large --help ' ;;
             esac

@@ -26,6 +26,8 @@ complete -c renamer -n '__fish_seen_subcommand_from run' -l hand -x -a '(seq 64)
 complete -c renamer -n '__fish_seen_subcommand_from run' -l form -x -a 'report grants' \
     -d 'What is written: report (exits and names) or grants (CSV for check)'
 complete -c renamer -n '__fish_seen_subcommand_from run' -l carry -d 'Keep the counters from epoch to epoch'
+complete -c renamer -n '__fish_seen_subcommand_from run' -l together \
+    -d 'All workers walk each epoch at once, on one network'
 complete -c renamer -n '__fish_seen_subcommand_from run check' -l large -d 'Take a large input, as far as memory goes'
 
 complete -c renamer-picture -s h -l help -d 'Print help'

@@ -306,7 +306,8 @@ RENAMER_CALL uint32_t renamer_hand_back(renamer_lane *lane);
 
 /* Takes in one lane of the same floor that was handed back: its quota is added, and its grants come after the lane's
    own. It is not said which of several lanes that is. Any lane may take in any other. The call takes no memory if the
-   lane has room for these grants, and the lane has that much less room then.
+   lane has room for these grants, and the lane has that much less room then. What a thread wrote before it handed the
+   lane back is seen by the thread that takes it in.
 
    RENAMER_NOTHING_BACK says that at one moment of the call no lane was back: each whose hand-back had returned was
    taken by another join. A thread that is stopped in a call keeps from others no lane but the one that it hands back or

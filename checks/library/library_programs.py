@@ -82,6 +82,7 @@ WORKERS = "64 workers filled the rows 0 to 6399, each once\n"
 PROGRAMS = (
     Program(C / "tests" / "carried.c", is_long=True),
     Program(C / "tests" / "frozen.c", is_long=True),
+    Program(C / "tests" / "atomic_steps.c", is_long=True),
     Program(C / "examples" / "pool.c", prints="622 workers have the numbers 0 to 621\n"),
     TABLE,
     Program(C / "examples" / "lanes.cpp", prints="3000 clients have the names 0 to 2999\n"),

@@ -11,7 +11,7 @@ ROOT = pathlib.Path(__file__).resolve().parents[2]
 # What a stream of a case may be, beside open; the first is a file.
 OUTPUTS = ("file", "full", "broken", "closed")
 ERRORS = ("file", "full", "closed")
-INPUTS = ("file", "folder", "closed", "terminal")
+INPUTS = ("file", "folder", "closed", "terminal", "pipe")
 # What a case may limit.
 LIMITS = ("growths", "bytes", "writes", "error_writes")
 

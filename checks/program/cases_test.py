@@ -22,6 +22,7 @@ READ = [
                                                    b"wire 1 exit 0\nwire 2 exit 1\nend wires 3\n"}),
     ("case a\noutput open\nerrors open\n", {"open_output": True, "open_errors": True}),
     ("case a\noutput full\nerrors closed\ninput folder\n", {"output": "full", "errors": "closed", "input": "folder"}),
+    ("case a\ninput pipe\n", {"input": "pipe"}),
     ("case a\nerrors with one line\n", {"open_errors": True, "error_lines": ["one line"]}),
     ("case a\n? x y\nlacks z\n", {"open_output": True, "texts": ["x y"], "unwanted_texts": ["z"]}),
     ("refuses run now\n", {"name": "to refuse run now", "words": ["run", "now"], "open_errors": True, "status": 2}),

@@ -1,5 +1,4 @@
 -- Lemmas on what is read.
-pub mod Ahead
 pub mod BatchRecords
 pub mod ClippedAnswers
 pub mod ClippedPieces
@@ -13,6 +12,6 @@ pub mod RecordLists
 pub mod Results
 pub mod ScheduleRecords
 pub mod ServableEpochs
-pub mod Stretches
+pub mod Taking
 pub mod Told
 pub mod UniqueBatch

@@ -11,4 +11,4 @@ pub mod Number
 pub mod Records
 pub mod Scatter
 pub mod Schedule
-pub mod Stretch
+pub mod Taken

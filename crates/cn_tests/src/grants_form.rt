@@ -47,8 +47,8 @@ pub(crate) const ROWS: [Row; 10] = [
     ),
     (
         BITONIC_FOUR,
-        b"epoch,client,entry\n1,17,0\n9,17,0\n",
-        b"epoch,client,name\n1,17,0\n9,17,0\n",
+        b"epoch,client,entry\n1,17,0\n2,17,0\n",
+        b"epoch,client,name\n1,17,0\n2,17,0\n",
     ),
     (
         (Kind::Bitonic, 2, 1, 1),

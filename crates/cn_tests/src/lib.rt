@@ -3,6 +3,8 @@
 #![tactic(auto)]
 
 #[cfg(test)]
+mod at_a_gate;
+#[cfg(test)]
 mod batches;
 #[cfg(test)]
 mod carried;
@@ -14,6 +16,8 @@ mod command_lines;
 mod cuts;
 #[cfg(test)]
 mod emitting;
+#[cfg(test)]
+mod failing;
 #[cfg(test)]
 mod fault_lines;
 #[cfg(test)]
@@ -30,6 +34,8 @@ mod listing;
 mod meeting;
 #[cfg(test)]
 mod performing;
+#[cfg(test)]
+mod rendering;
 #[cfg(test)]
 mod replaying;
 #[cfg(test)]

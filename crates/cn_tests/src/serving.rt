@@ -16,7 +16,7 @@ use std::thread::Threads;
 /// What a run is asked for: a kind, a width, how many workers, and a hand.
 pub(crate) type Asked = (Kind, u32, u32, u32);
 
-const BITONIC_TWO: Asked = (Kind::Bitonic, 2, 1, 1);
+pub(crate) const BITONIC_TWO: Asked = (Kind::Bitonic, 2, 1, 1);
 
 pub(crate) const BITONIC_FOUR: Asked = (Kind::Bitonic, 4, 1, 1);
 
@@ -40,7 +40,7 @@ pub(crate) const FIVE_ON_ONE_ENTRY_SERVED: &[u8] = b"network bitonic width 4 bal
       name 4 client 42\n\
       end epochs 1 grants 5\n";
 
-const SINGLE_CLIENT: &[u8] = b"epoch,client,entry\n\
+pub(crate) const SINGLE_CLIENT: &[u8] = b"epoch,client,entry\n\
       1,17,1\n";
 
 const SINGLE_CLIENT_SERVED: &[u8] = b"network bitonic width 2 balancers 1 depth 1\n\
@@ -97,7 +97,7 @@ const SEVENTEEN_TWICE_SERVED: &[u8] = b"network bitonic width 4 balancers 6 dept
       exit 2 count 0\n\
       exit 3 count 0\n\
       name 0 client 17\n\
-      epoch 9 clients 1\n\
+      epoch 2 clients 1\n\
       exit 0 count 1\n\
       exit 1 count 0\n\
       exit 2 count 0\n\
@@ -125,7 +125,23 @@ pub(crate) fn options_of(asked: Asked, form: Form) -> Option<Options> {
     Options::new(net, workers, hand, form).ok()
 }
 
-/// The report that serving a batch writes, if it ends well and the writer is flushed once.
+/// The text that serving a batch writes, if it ends well and the writer is flushed once.
+pub(crate) fn text_of<G: Gate + Sync, R: Threads + Wait + Sync>(
+    rt: &R,
+    alloc: Global,
+    state: RandomState,
+    options: &Options,
+    batch: &[u8],
+    gate: &G,
+) -> Option<Vec<u8>> {
+    let mut writer = Narrow::new(alloc, usize::MAX, Then::TakesNothing);
+    match serve(rt, alloc, batch, &mut writer, options, state, gate) {
+        Ok(()) if writer.flushes == 1 => Some(writer.taken),
+        _ => None,
+    }
+}
+
+/// The report that serving a batch writes, likewise.
 pub(crate) fn served<G: Gate + Sync, R: Threads + Wait + Sync>(
     rt: &R,
     alloc: Global,
@@ -135,11 +151,7 @@ pub(crate) fn served<G: Gate + Sync, R: Threads + Wait + Sync>(
     gate: &G,
 ) -> Option<Vec<u8>> {
     let options = options_of(asked, Form::Report)?;
-    let mut writer = Narrow::new(alloc, usize::MAX, Then::TakesNothing);
-    match serve(rt, alloc, batch, &mut writer, &options, state, gate) {
-        Ok(()) if writer.flushes == 1 => Some(writer.taken),
-        _ => None,
-    }
+    text_of(rt, alloc, state, &options, batch, gate)
 }
 
 /// What a run is asked for, a batch, and the text that is written of it.
@@ -180,7 +192,7 @@ pub(crate) const ROWS: [Row; 11] = [
     ),
     (
         BITONIC_FOUR,
-        b"epoch,client,entry\n1,17,0\n9,17,0\n",
+        b"epoch,client,entry\n1,17,0\n2,17,0\n",
         SEVENTEEN_TWICE_SERVED,
     ),
     (
@@ -191,7 +203,7 @@ pub(crate) const ROWS: [Row; 11] = [
     (BITONIC_TWO, b"epoch,client,entry\n1,007,0\n", SEVEN_SERVED),
 ];
 
-const THREE_CLIENTS: &[u8] = b"epoch,client,entry\n\
+pub(crate) const THREE_CLIENTS: &[u8] = b"epoch,client,entry\n\
       1,5,0\n\
       1,6,1\n\
       1,7,2\n";

@@ -1,4 +1,5 @@
-//! The callers of the pages that say so, word for word, each in a module of its own.
+//! The callers of the pages that say so, word for word, each in a module of its own; and all public names, by the crates
+//! that offer them.
 #![tactic(auto)]
 
 pub mod of_balancer;
@@ -20,3 +21,4 @@ pub mod of_spec;
 pub mod of_tree;
 pub mod of_wiring;
 pub mod of_yard;
+pub mod public_names;

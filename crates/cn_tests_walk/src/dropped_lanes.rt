@@ -58,25 +58,28 @@ fn walk_both(floor: &Floor<'_>, first: &mut Lane, second: &mut Lane) -> Option<S
     ])
 }
 
-/// Of three lanes with a quota of 1, into which one with a quota of 3 is split, the first two; the third lets nobody
-/// in, and is dropped.
-fn two_of_three(floor: &Floor<'_>, lane: Lane) -> Option<(Lane, Lane)>
+/// Three lanes with a quota of 1, into which one with a quota of 3 is split.
+fn three_of(floor: &Floor<'_>, lane: Lane) -> Option<(Lane, Lane, Lane)>
     requires { lane.home ≡ floor.now }
-    ensures { IfSome result (λ r. (r.0.home ≡ floor.now) × (r.1.home ≡ floor.now)) }
+    ensures { IfSome result (λ r. (r.0.home ≡ floor.now) × (r.1.home ≡ floor.now) × (r.2.home ≡ floor.now)) }
 {
     let (first, second) = split(floor, lane, 2)?;
     let (second, third) = split(floor, second, 1)?;
-    drop(third);
-    Some((first, second))
+    if (first.quota(), second.quota(), third.quota()) == (1, 1, 1) {
+        Some((first, second, third))
+    } else {
+        None
+    }
 }
 
-/// Only the third lane is dropped: the steps, and the other two as one.
+/// Only the third lane is dropped, after the others have walked: their steps, and both as one.
 fn third_dropped(floor: &Floor<'_>, lane: Lane) -> Option<(Steps, Lane)>
     requires { lane.home ≡ floor.now }
     ensures { IfSome result (λ r. r.1.home ≡ floor.now) }
 {
-    let (mut first, mut second) = two_of_three(floor, lane)?;
+    let (mut first, mut second, third) = three_of(floor, lane)?;
     let steps = walk_both(floor, &mut first, &mut second)?;
+    drop(third);
     let lane = join(floor, first, second)?;
     Some((steps, lane))
 }
@@ -86,8 +89,9 @@ fn second_dropped(floor: &Floor<'_>, lane: Lane) -> Option<(Steps, Lane)>
     requires { lane.home ≡ floor.now }
     ensures { IfSome result (λ r. r.1.home ≡ floor.now) }
 {
-    let (mut first, mut second) = two_of_three(floor, lane)?;
+    let (mut first, mut second, third) = three_of(floor, lane)?;
     let steps = walk_both(floor, &mut first, &mut second)?;
+    drop(third);
     drop(second);
     Some((steps, first))
 }
@@ -97,7 +101,8 @@ fn second_dropped_at_once(floor: &Floor<'_>, lane: Lane) -> Option<(Steps, Lane)
     requires { lane.home ≡ floor.now }
     ensures { IfSome result (λ r. r.1.home ≡ floor.now) }
 {
-    let (first, mut second) = two_of_three(floor, lane)?;
+    let (first, mut second, third) = three_of(floor, lane)?;
+    drop(third);
     enter(floor, &mut second, 8, 0).ok()?;
     drop(second);
     Some(([None; 4], first))

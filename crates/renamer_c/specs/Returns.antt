@@ -19,7 +19,7 @@ pub record IsJoined (old new other : LaneValue) : Type 0 where
   }
   pub in_state : StoodInState old.home.start new.view
 
--- the same of what a handle has: it took in some lane that had been handed back
+-- the same of what a handle has: it took in some lane of its floor with nobody inside
 abbrev pub Joins : Option LaneValue → Option LaneValue → Type 0
 Joins old new = (l k m : LaneValue) × (old ≡ Some l) × (new ≡ Some k) × IsJoined l k m
 

@@ -5,7 +5,7 @@ use Rattle.cn_report.specs.Reading.Arrival.{arrival_cause, arrival_in, arrivals_
 use Rattle.cn_report.specs.Reading.Batch.{IsBatch, AreEpochsOf, cause_of_heading, header_cause, record_cause}
 use Rattle.cn_report.specs.Reading.Heading.{heading_in, heading_of, heading_or}
 use Rattle.cn_report.specs.declared.reading.bounds.Bounds.{Bounds}
-use Rattle.cn_report.specs.Reading.Stretch.{AreTaken}
+use Rattle.cn_report.specs.Reading.Taken.{AreTaken}
 use Rattle.cn_report.specs.declared.reading.batch.arrival.Arrival.{Arrival}
 use Rattle.cn_report.specs.declared.reading.batch_fault.BatchCause.{BatchCause}
 use Rattle.cn_report.specs.declared.reading.batch.BatchEpoch.{BatchEpoch}

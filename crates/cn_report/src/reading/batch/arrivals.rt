@@ -7,7 +7,7 @@ ghost use Rattle.cn_report.specs.Reading.Bounds.{AreBounds};
 ghost use Rattle.cn_report.specs.declared.reading.bounds.Bounds.{Bounds};
 ghost use Rattle.cn_report.specs.Reading.Heading.{heading_of};
 ghost use Rattle.cn_report.specs.Reading.Records.{HasRead, IsPlain, IsTold, Record, records_of};
-ghost use Rattle.cn_report.specs.Reading.Stretch.{HasHeader, HasSameHeader, IsFull, IsOpen, ReadsStretch};
+ghost use Rattle.cn_report.specs.Reading.Taken.{HasHeader, HasSameHeader, IsOpen};
 
 use crate::reading::batch::arrival::{Arrival, Heading, arrival_of, heading_of};
 use crate::reading::batch_fault::{BatchCause, BatchFault};
@@ -83,8 +83,11 @@ impl<R: ReadTelling + Drop> ArrivalReader<R> {
         self.bounds
     }
 
-    /// The arrival of the next record, if there is one.
-    fn next_arrival(&mut self) -> Result<Option<Arrival>, BatchCause>
+    /// Reads the next record: its arrival, if there is one.
+    ///
+    /// # Errors
+    /// The cause for which the record has no arrival.
+    pub(crate) fn next_arrival(&mut self) -> Result<Option<Arrival>, BatchCause>
         requires { IsOpen self.old }
         ensures plain { OnOk result (IsPlain self.new.records.value) }
         ensures same { HasSameHeader self.old self.new }
@@ -103,32 +106,5 @@ impl<R: ReadTelling + Drop> ArrivalReader<R> {
             return Ok(None);
         }
         Ok(Some(arrival_of(&self.fields, self.heading, self.bounds)?))
-    }
-
-    /// Reads a stretch in place of the arrivals that were there: `most` arrivals, or fewer if the text ends or a record
-    /// has none. Returns whether others may come.
-    ///
-    /// # Errors
-    /// The cause for which the record after them has no arrival.
-    pub(crate) fn read_stretch(
-        &mut self,
-        most: usize,
-        arrivals: &mut Vec<Arrival>,
-    ) -> Result<bool, BatchCause>
-        requires { IsOpen self.old }
-        ensures reads { ReadsStretch R.remaining self.old self.new arrivals.new.items result }
-        ensures told { IfErr result (IsTold R.failed batch_cause_of_fault self.new.records.value) }
-        ensures most { IsFull most arrivals.new.items result }
-    {
-        arrivals.clear();
-        for _taken in 0..most {
-            let Some(arrival) = self.next_arrival()? else {
-                return Ok(false);
-            };
-            if arrivals.push(arrival).is_err() {
-                return Err(BatchCause::Memory);
-            }
-        }
-        Ok(true)
     }
 }

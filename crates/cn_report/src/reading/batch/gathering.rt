@@ -9,7 +9,7 @@ ghost use Rattle.cn_report.specs.Reading.Bounds.{AreBounds};
 ghost use Rattle.cn_report.specs.declared.reading.bounds.Bounds.{Bounds};
 ghost use Rattle.cn_report.specs.Reading.Gathered.{HoldsArrivals, IsGathered, StaysServable, adding_cause, ended_after};
 ghost use Rattle.cn_report.specs.Reading.Records.{Record};
-ghost use Rattle.cn_report.specs.Reading.Stretch.{AreTaken, Gathers};
+ghost use Rattle.cn_report.specs.Reading.Taken.{AreTaken};
 
 use crate::reading::batch::BatchEpoch;
 use crate::reading::batch::arrival::Arrival;
@@ -128,7 +128,15 @@ impl Gathering {
     }
 
     /// Adds an arrival, which is the next record, if nothing is wrong with it.
-    fn add(&mut self, alloc: Global, bounds: Bounds, arrival: Arrival) -> Result<(), BatchCause>
+    ///
+    /// # Errors
+    /// Its first cause.
+    pub(crate) fn add(
+        &mut self,
+        alloc: Global,
+        bounds: Bounds,
+        arrival: Arrival,
+    ) -> Result<(), BatchCause>
         requires { StaysServable bounds self.old }
         ensures ok { OnOk result ((before : List Arrival) → IsGathered self.old before
             → (arrival_cause bounds before arrival ≡ None)
@@ -152,28 +160,6 @@ impl Gathering {
             entry: arrival.entry,
         };
         self.add_to_latest(bounds, client)
-    }
-
-    /// Gathers arrivals, those of the next records.
-    ///
-    /// # Errors
-    /// The first of them that has a cause, and its first cause.
-    pub(crate) fn gather(
-        &mut self,
-        alloc: Global,
-        bounds: Bounds,
-        arrivals: &[Arrival],
-    ) -> Result<(), BatchFault>
-        requires { StaysServable bounds self.old }
-        ensures { Gathers bounds arrivals.now self.old self.new result }
-    {
-        for arrival in arrivals {
-            let at = self.next;
-            if let Err(cause) = self.add(alloc, bounds, *arrival) {
-                return Err(BatchFault { at, cause });
-            }
-        }
-        Ok(())
     }
 
     /// Ends the latest epoch: the epochs of the batch, which has no other record.

@@ -1,110 +1,112 @@
-use Rattle.cn_report.proofs.Common.{◌≡◌, refl, true, Ok}
-use Rattle.std.proofs.lemmas.Result.{IfOk-weaker, err_from_is_err_and}
-use Rattle.cn_report.proofs.ReadingLemmas.Ahead.{after-header, at-an-end, at-end, goes-on, next-ahead, next-fault, same-header, stretch-fault}
-use Rattle.cn_report.proofs.ReadingLemmas.Told.{read-stops}
+use Rattle.cn_report.proofs.Common.{arith, inl, refl}
+use Rattle.std.proofs.lemmas.Result.{IfOk-weaker}
+use Rattle.cn_report.proofs.ReadingLemmas.Results.{if_err-map}
+use Rattle.cn_report.proofs.ReadingLemmas.Taking.{adding-fault, after-header, read-last, reading-fault, reading-last, same-header, taken-more}
 use Rattle.cn_report.proofs.reading.batch.read_epochs.Goals as goal
 
-pub loop-end-init : goal.loop-end-init
-loop-end-init g c =
-    let source = c.args.source.now in
-    let read = c.read_stretch-end.ensures in record {
-      plain = read.reads.plain;
-      told = read.told;
-      same = read.reads.same;
-      full = read.most;
+pub loop-taken-init : goal.loop-taken-init
+loop-taken-init g c =
+    let source = c.args.source.now in record {
+      plain = c.requires.open.plain;
+      same = record { heading = refl {a = source.heading}; bounds = refl {a = source.bounds} };
       keeps = c.requires.keeps;
-      ahead = λ text header.
-          next-ahead g.I.Read.remaining source.heading source.bounds text source c.read_stretch-end.new.self refl refl c.args.gathering _ _
-          (after-header g.I.Read.remaining source.heading source.bounds text source.records.value c.args.gathering header.fields header.read
-          header.heads c.requires.none) read.reads;
+      taken = λ text header.
+          after-header g.I.Read.remaining source.heading source.bounds text source.records.value c.args.gathering header.fields header.read
+          header.heads c.requires.none;
     }
 
-pub loop-end-preserved : goal.loop-end-preserved
-loop-end-preserved g c =
-    let source = c.args.source.now in
-    let now = c.loop-end in
-    let was = now.invariant in
-    let both = c.gather_and_read-gathered in
-    let goes : now.end ≡ Ok true = c.goes_on.ensures.0 c.loop-end-test.true in
-    let gathers = rw (c.in_ok-gathered.was, c.deref.ensures.value, was.same.bounds) at both.ensures.gathers in
-    record {
-      plain = both.ensures.reads.plain;
-      told = both.ensures.told;
-      same = same-header _ _ _ was.same both.ensures.reads.same;
-      full = rw c.swap.ensures.x_after both.ensures.full;
-      keeps = gathers.keeps;
-      ahead = λ text header.
-          rw c.swap.ensures.x_after (next-ahead g.I.Read.remaining source.heading source.bounds text now.source both.new.source
-          was.same.heading was.same.bounds both.new.gathering both.new.next.items both.result.1
-          (goes-on g.I.Read.remaining source.heading source.bounds text now.source.records.value now.gathering both.new.gathering
-          now.stretch.items now.end (was.ahead text header) gathers goes) both.ensures.reads);
-    }
-
-pub returns-in_err-gathered-clause-answer : goal.returns-in_err-gathered-clause-answer
-returns-in_err-gathered-clause-answer g c =
-    let source = c.args.source.now in
-    let now = c.loop-end in
-    let was = now.invariant in
-    let reported = err_from_is_err_and c.from_residual.result c.from_residual.ensures.1 in
-    let gathers = rw (c.in_err-gathered.was, c.deref.ensures.value, was.same.bounds) at c.gather_and_read-gathered.ensures.gathers in
-    rw (reported.1, reported.2) (λ text header.
-    stretch-fault g.I.Read.remaining source.heading source.bounds text now.source.records.value now.gathering
-    c.gather_and_read-gathered.new.gathering now.stretch.items now.end (was.ahead text header)
-    c.in_err-gathered.field-0.0 gathers)
-
-pub returns-in_err-gather-clause-answer : goal.returns-in_err-gather-clause-answer
-returns-in_err-gather-clause-answer g c =
-    let source = c.args.source.now in
-    let now = c.loop-end in
-    let was = now.invariant in
-    let reported = err_from_is_err_and c.from_residual-in_err-gather.result c.from_residual-in_err-gather.ensures.1 in
-    let gathers = rw (c.deref-2.ensures.value, c.bounds.ensures, was.same.bounds) at c.in_err-gather.ensures in
-    rw (reported.1, reported.2) (λ text header.
-    stretch-fault g.I.Read.remaining source.heading source.bounds text now.source.records.value now.gathering c.gather.new.self
-    now.stretch.items now.end (was.ahead text header)
-    c.in_err-gather.field-0.0 gathers)
-
-pub returns-in-Ok-clause-answer : goal.returns-in-Ok-clause-answer
-returns-in-Ok-clause-answer g c = λ text header.
-    let source = c.args.source.now in
-    let now = c.loop-end in
-    let was = now.invariant in
-    let gathers = rw (c.deref-2.ensures.value, c.bounds.ensures, was.same.bounds) at c.in_ok-gather.ensures in
-    let ends = at-an-end now.end c.in-Ok.field-0 c.goes_on.result c.in-Ok.is c.loop-end-test.false c.goes_on.ensures.1 in
-    let (all, taken, gathered) = at-end g.I.Read.remaining source.heading source.bounds text now.source.records.value now.gathering
-    c.gather.new.self now.stretch.items now.end (was.ahead text header) gathers ends in
-    rw all (c.finish.ensures.answer source.heading source.bounds _ _ taken gathered)
-
-pub returns-in-Ok-clause-fits : goal.returns-in-Ok-clause-fits
-returns-in-Ok-clause-fits g c =
-    let keeps = rw (c.bounds.ensures, c.loop-end.invariant.same.bounds) at c.in_ok-gather.ensures.keeps in
-    IfOk-weaker c.finish.result _ _ (λ epochs fits. fits c.args.source.now.bounds keeps) c.finish.ensures.fits
-
-pub returns-in-Ok-clause-few : goal.returns-in-Ok-clause-few
-returns-in-Ok-clause-few g c =
-    let keeps = rw (c.bounds.ensures, c.loop-end.invariant.same.bounds) at c.in_ok-gather.ensures.keeps in
-    IfOk-weaker c.finish.result _ _ (λ epochs few. few c.args.source.now.bounds keeps) c.finish.ensures.few
+pub next_arrival-requires : goal.next_arrival-requires
+next_arrival-requires g c =
+    let was = c.loop-taken.invariant in
+    record { plain = was.plain; within = rw was.same.bounds was.keeps.within }
 
 pub returns-in-Err-clause-answer : goal.returns-in-Err-clause-answer
 returns-in-Err-clause-answer g c = λ text header.
     let source = c.args.source.now in
-    let now = c.loop-end in
-    let was = now.invariant in
-    let gathers = rw (c.deref-2.ensures.value, c.bounds.ensures, was.same.bounds) at c.in_ok-gather.ensures in
-    rw c.next.ensures
-    (next-fault g.I.Read.remaining source.heading source.bounds text now.source.records.value now.gathering c.gather.new.self
-    now.stretch.items now.end (was.ahead text header) gathers c.in-Err.cause c.in-Err.is)
+    let was = c.loop-taken.invariant in
+    let t = was.taken text header in
+    rw c.next-at.ensures
+    (reading-fault g.I.Read.remaining source.heading source.bounds text c.loop-taken.source.records.value c.loop-taken.gathering t
+    c.next_arrival.new.self.records.value c.in-Err.cause
+    (rw (was.same.heading, was.same.bounds) at (c.in-Err.ensures.refused text t.records t.read)))
 
-pub returns-in_err-gathered-clause-told : goal.returns-in_err-gathered-clause-told
-returns-in_err-gathered-clause-told g c =
-    let reported = err_from_is_err_and c.from_residual.result c.from_residual.ensures.1 in
-    let own = rw c.in_err-gathered.was at c.gather_and_read-gathered.ensures.gathers.own in
-    rw (reported.1, reported.2) (λ is. absurd (own is))
+pub returns-in-Err-clause-last : goal.returns-in-Err-clause-last
+returns-in-Err-clause-last g c = λ text header.
+    let source = c.args.source.now in
+    let was = c.loop-taken.invariant in
+    let t = was.taken text header in
+    rw c.next-at.ensures
+    (reading-last g.I.Read.remaining source.heading source.bounds text c.loop-taken.source.records.value c.loop-taken.gathering t
+    c.next_arrival.new.self.records.value c.in-Err.cause
+    (rw (was.same.heading, was.same.bounds) at (c.in-Err.ensures.refused text t.records t.read)))
 
-pub returns-in_err-gather-clause-told : goal.returns-in_err-gather-clause-told
-returns-in_err-gather-clause-told g c =
-    let reported = err_from_is_err_and c.from_residual-in_err-gather.result c.from_residual-in_err-gather.ensures.1 in
-    rw (reported.1, reported.2) (λ is. absurd (c.in_err-gather.ensures.own is))
+pub returns-in-Err-clause-soon : goal.returns-in-Err-clause-soon
+returns-in-Err-clause-soon g c = omega (arith, c.next-at.ensures, c.loop-taken.invariant.keeps.few)
 
-pub returns-in-Err-clause-told : goal.returns-in-Err-clause-told
-returns-in-Err-clause-told g c = read-stops c.in-Err.cause (rw c.in-Err.is at c.loop-end.invariant.told)
+pub returns-in_default-clause-answer : goal.returns-in_default-clause-answer
+returns-in_default-clause-answer g c = λ text header.
+    let source = c.args.source.now in
+    let t = c.loop-taken.invariant.taken text header in
+    let all = rw c.in_default.is at (c.in-Ok.ensures.next text t.records t.read) in
+    rw all (c.finish.ensures.answer source.heading source.bounds _ _ t.taken t.gathered)
+
+pub returns-in_default-clause-soon : goal.returns-in_default-clause-soon
+returns-in_default-clause-soon g c =
+    if_err-map c.finish.result c.finish.ensures.memory (λ fault is. rw is (omega (arith, c.loop-taken.invariant.keeps.few)))
+
+pub returns-in_default-clause-fits : goal.returns-in_default-clause-fits
+returns-in_default-clause-fits g c =
+    IfOk-weaker c.finish.result _ _ (λ epochs fits. fits c.args.source.now.bounds c.loop-taken.invariant.keeps) c.finish.ensures.fits
+
+pub returns-in_default-clause-few : goal.returns-in_default-clause-few
+returns-in_default-clause-few g c =
+    IfOk-weaker c.finish.result _ _ (λ epochs few. few c.args.source.now.bounds c.loop-taken.invariant.keeps) c.finish.ensures.few
+
+pub add-requires : goal.add-requires
+add-requires g c =
+    let was = c.loop-taken.invariant in
+    rw (c.bounds.ensures, c.next_arrival.ensures.same.bounds, was.same.bounds) was.keeps
+
+pub returns-in-Err-add-clause-answer : goal.returns-in-Err-add-clause-answer
+returns-in-Err-add-clause-answer g c = λ text header.
+    let source = c.args.source.now in
+    let was = c.loop-taken.invariant in
+    let t = was.taken text header in
+    let (fields, read, is) = rw (c.in-Some.is, was.same.heading, was.same.bounds) at (c.in-Ok.ensures.next text t.records t.read) in
+    rw c.next-at.ensures
+    (adding-fault g.I.Read.remaining source.heading source.bounds text c.loop-taken.source.records.value c.loop-taken.gathering t
+    c.next_arrival.new.self.records.value fields read c.in-Some.arrival is c.in-Err-add.cause
+    (rw (c.bounds.ensures, c.next_arrival.ensures.same.bounds, was.same.bounds) at (c.in-Err-add.ensures.err t.came t.gathered)))
+
+pub returns-in-Err-add-clause-last : goal.returns-in-Err-add-clause-last
+returns-in-Err-add-clause-last g c = λ text header.
+    let source = c.args.source.now in
+    let was = c.loop-taken.invariant in
+    let t = was.taken text header in
+    let (fields, read, is) = rw (c.in-Some.is, was.same.heading, was.same.bounds) at (c.in-Ok.ensures.next text t.records t.read) in
+    rw c.next-at.ensures
+    (inl (read-last g.I.Read.remaining source.heading source.bounds text c.loop-taken.source.records.value c.loop-taken.gathering t
+    c.next_arrival.new.self.records.value fields read))
+
+pub returns-in-Err-add-clause-soon : goal.returns-in-Err-add-clause-soon
+returns-in-Err-add-clause-soon g c = omega (arith, c.next-at.ensures, c.loop-taken.invariant.keeps.few)
+
+pub loop-taken-smaller : goal.loop-taken-smaller
+loop-taken-smaller g c = omega (arith, c.in_default-add.ensures.next, c.loop-taken.invariant.keeps.few)
+
+pub loop-taken-preserved : goal.loop-taken-preserved
+loop-taken-preserved g c =
+    let source = c.args.source.now in
+    let was = c.loop-taken.invariant in
+    let next = c.next_arrival.ensures in
+    record {
+      plain = c.in-Ok.ensures.plain;
+      same = same-header _ _ _ was.same next.same;
+      keeps = rw (c.bounds.ensures, next.same.bounds, was.same.bounds) at c.in_default-add.ensures.keeps;
+      taken = λ text header.
+          let t = was.taken text header in
+          let (fields, read, is) = rw (c.in-Some.is, was.same.heading, was.same.bounds) at (c.in-Ok.ensures.next text t.records t.read) in
+          let (none, more) = rw (c.bounds.ensures, next.same.bounds, was.same.bounds) at (c.in_default-add.ensures.ok t.came t.gathered) in
+          taken-more g.I.Read.remaining source.heading source.bounds text c.loop-taken.source.records.value c.loop-taken.gathering t
+          c.next_arrival.new.self.records.value fields read c.in-Some.arrival is c.add.new.self none more;
+    }
