@@ -108,7 +108,7 @@ class Made:
         run([self.pages / "checks" / "pages" / "proof_page"])
 
     def wants_this_glibc(self):
-        """What program and library ask of the C library is said by README.md of each archive, by pages and by packages."""
+        """What program and library ask of the C library is said by README.md of each archive, INSTALL.md and packages."""
         for tree, on, program in ((self.tree, "any Linux on x86-64", "no C library"),
                                   (self.root / ARM_NAME, "Linux on ARM", None)):
             library = f"glibc {glibc_of(tree / 'lib' / 'librenamer.so.1')} or later"
@@ -116,10 +116,9 @@ class Made:
             said = f"The program needs {program}, and the library {library}."
             if f"{said}\n" not in (tree / "README.md").read_text():
                 raise Wrong(f"{tree.name}/README.md does not say: {said}")
-            for page in ("README.md", "docs/INSTALL.md"):
-                row = re.search(rf"^\| {on}.*", (self.pages / page).read_text(), re.M)[0]
-                if not all(wanted in row for wanted in {program, library} - {"no C library"}):
-                    raise Wrong(f"{page} says: {row}")
+            row = re.search(rf"^\| {on}.*", (self.pages / "docs" / "INSTALL.md").read_text(), re.M)[0]
+            if not all(wanted in row for wanted in {program, library} - {"no C library"}):
+                raise Wrong(f"docs/INSTALL.md says: {row}")
         for package, file in (("renamer", "bin/renamer"), ("librenamer1", "lib/x86_64-linux-gnu/librenamer.so.1")):
             run(["dpkg-deb", "--extract", self.made / f"{package}_{VERSION}_amd64.deb", self.folder / "packages"])
             depends = run(["dpkg-deb", "--field", self.made / f"{package}_{VERSION}_amd64.deb", "Depends"])
