@@ -224,7 +224,7 @@ def interrupted(call, at):
 def test_small_lanes_of_the_page_serve_all_clients():
     """Of lanes with an equal share each a quarter of the clients here found none."""
     page = pathlib.Path(__file__).resolve().parents[1].joinpath("README.md").read_text()
-    recipe = re.search(r"^>>> import threading\n(?:(?:>>>|\.\.\.).*\n)+", page, re.M)[0]
+    recipe = re.search(r"^(>>> import threading\n.*?)>>> \[name", page, re.M | re.S)[1]
     made = {"renamer": renamer}
     exec(re.sub(r"^(>>>|\.\.\.) ?", "", recipe, flags=re.M), made)
     with concurrent.futures.ThreadPoolExecutor(16) as pool:
