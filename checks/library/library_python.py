@@ -16,7 +16,7 @@ LIBRARY, PROGRAM = OUT / "lib" / "librenamer.so.1", ROOT / "crates" / "renamer" 
 # The one on the path may be another than Debian's, whose packages it does not have.
 PYTHONS = (sys.executable, "/usr/bin/python3")
 # The fast tests. Others run in checks/long/python.
-FAST = ("test_floor.py", "test_kinds.py", "test_number.py", "test_pages.py", "test_taker.py")
+FAST = tuple(f"test_{name}.py" for name in ("floor", "kinds", "lanes_back", "number", "pages", "taker"))
 DEBIAN = {"numpy": "python3-numpy", "pytest": "python3-pytest", "ensurepip": "python3-venv", "mypy": "mypy",
           "distributed": "python3-distributed", "mpi4py": "python3-mpi4py"}
 # The types of renamer.h, as _library.py has them.

@@ -3,6 +3,7 @@ there once, and what stands there in its place."""
 
 FLOOR, NUMBER, DASK, MPI = "test_floor.py::test_", "test_number.py::test_", "test_dask.py::test_", "test_mpi.py::test_"
 PAGES, TAKER, KINDS = "test_pages.py::test_", "test_taker.py::test_", "test_kinds.py::test_"
+BACK = "test_lanes_back.py::test_"
 EDITS = (
     # Lanes and floors.
     (FLOOR + "a_lane_that_all_threads_use_stays_whole", "_floor.py",
@@ -11,10 +12,10 @@ EDITS = (
     (FLOOR + "the_child_of_a_fork_has_no_lanes", "_floor.py", "        owned._lock = threading.Lock()\n", ""),
     (FLOOR + "sixteen_threads_get_each_name_once", "_floor.py",
      "lib.join_all(rest._handle)\n                lib.close_floor", "lib.close_floor"),
-    (FLOOR + "a_lane_that_is_dropped_is_handed_back", "_floor.py",
+    (BACK + "a_lane_that_is_dropped_is_handed_back", "_floor.py",
      "            lib.join_all(rest._handle)\n            some", "            some"),
-    (FLOOR + "a_lane_that_is_dropped_is_handed_back", "_floor.py", '__del__ = property(', "_end = property("),
-    (FLOOR + "no_step_at_which_ctrl_c_loses_a_lane", "_floor.py", '__del__ = property(attrgetter("_release"), doc=',
+    (BACK + "a_lane_that_is_dropped_is_handed_back", "_floor.py", '__del__ = property(', "_end = property("),
+    (BACK + "no_step_at_which_ctrl_c_loses_a_lane", "_floor.py", '__del__ = property(attrgetter("_release"), doc=',
      "__del__ = lambda self, _=attrgetter: (self._release(),"),
     (FLOOR + "a_lane_has_one_owner", "_floor.py", "    def __reduce__(self)", "    def _reduce(self)"),
     (FLOOR + "names_of_an_array_stand_in_its_order", "_floor.py",

@@ -32,6 +32,11 @@ def shown(text: bytes) -> str:
     return repr(said[:LONGEST]) + ".." * (len(said) > LONGEST)
 
 
+def listed(words: list[str]) -> str:
+    """Returns words with commas, and `and` before the last."""
+    return " and ".join(part for part in (", ".join(words[:-1]), words[-1]) if part)
+
+
 class Plain:
     """Rows without quotes, which all end in the same way, and no blank lines."""
 

@@ -1,13 +1,8 @@
 import concurrent.futures
 import copy
-import dis
-import gc
-import itertools
 import multiprocessing
 import os
-import pathlib
 import pickle
-import re
 import subprocess
 import sys
 import threading
@@ -167,71 +162,6 @@ def test_numbers_out_of_range_are_refused():
         with pytest.raises(TypeError):
             lane.name_many(wrong)
     assert lane.quota == 1 and lane.name(2**64 - 1) == 0
-
-
-def test_a_lane_that_is_dropped_is_handed_back():
-    with renamer.Floor(quota=10) as floor:
-        assert floor.lane(4).name(7) == 0
-        gc.collect()
-        assert floor.lane().quota == 9
-        gc.collect()
-        assert floor.close().holders.tolist() == [7]
-
-
-@pytest.mark.filterwarnings("ignore::pytest.PytestUnraisableExceptionWarning")
-def test_no_step_at_which_ctrl_c_loses_a_lane():
-    """A call that makes a lane, and the end of that lane, are interrupted wherever Python looks for Ctrl-C."""
-    with renamer.Floor(quota=5) as floor:
-        for way in (lambda: floor.lane(2), lambda: floor.lane(2).hand_back()):
-            for at in itertools.count():
-                if interrupted(way, at) <= at:
-                    break
-                assert floor.lane().quota == 5
-            assert at > 10
-        assert len(floor.close().holders) == 0
-    first = renamer.Taker()
-    steps = [interrupted(first.split, at) for at in range(50)]
-    assert max(steps) > 10 and first.take() == 0
-
-
-def interrupted(call, at):
-    """Interrupts a call as Ctrl-C does, as a function begins or after a call, and returns how many such places it came
-    to."""
-    places, after_call = 0, set()
-
-    def trace(frame, event, _):
-        nonlocal places
-        frame.f_trace_opcodes = True
-        if event == "call" or event == "opcode" and id(frame) in after_call:
-            after_call.discard(id(frame))
-            places += 1
-            if places > at:
-                raise KeyboardInterrupt
-        if event == "opcode" and dis.opname[frame.f_code.co_code[frame.f_lasti]].startswith("CALL"):
-            after_call.add(id(frame))
-        return trace
-
-    sys.settrace(trace)
-    try:
-        call()
-    except KeyboardInterrupt:
-        pass
-    finally:
-        sys.settrace(None)
-    return places
-
-
-def test_small_lanes_of_the_page_serve_all_clients():
-    """Of lanes with an equal share each a quarter of the clients here found none."""
-    page = pathlib.Path(__file__).resolve().parents[1].joinpath("README.md").read_text()
-    recipe = re.search(r"^>>> import threading\n(?:(?:>>>|\.\.\.).*\n)+", page, re.M)[0]
-    made = {"renamer": renamer}
-    exec(re.sub(r"^(>>>|\.\.\.) ?", "", recipe, flags=re.M), made)
-    with concurrent.futures.ThreadPoolExecutor(16) as pool:
-        names = list(pool.map(made["name"], range(20_000)))
-    assert tight(names, 20_000)
-    holders = made["floor"].close().holders
-    assert holders[names].tolist() == list(range(20_000))
 
 
 def test_what_is_shown_of_floors_and_lanes():

@@ -35,6 +35,10 @@ Asks (Some (name, options)) (Show net) =
 Asks (Some (name, options)) (CheckLarge width) =
     (name ≡ codes "check") × NamesCheck options width true × IsWidth width
 
+-- a check with these options
+abbrev pub asked_check : List Row → Option (Text × List Row)
+asked_check options = Some (codes "check", options)
+
 -- it asks for no job
 abbrev pub AsksNone : Option (Text × List Row) → Type 0
 AsksNone chosen = (job : Job) → ¬ Asks chosen job

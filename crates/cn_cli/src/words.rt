@@ -1,8 +1,8 @@
 //! The words of a command line, and the job that they ask for.
 
-ghost use Rattle.std.specs.Prelude.{◌≡◌, ◌≢◌, IfErr, IfOk, MatchResult, Some, codes, map, string_bytes};
+ghost use Rattle.std.specs.Prelude.{◌≡◌, ◌≢◌, IfErr, IfOk, MatchResult, map, string_bytes};
 ghost use Rattle.clap.specs.Words.{found_of, kind_of, rows_of, subcommand_rows_of};
-ghost use Rattle.cn_cli.specs.Words.{Asks, AsksNone, IsFaultBy, IsFaultOf, IsJobOf, IsRefusalBy};
+ghost use Rattle.cn_cli.specs.Words.{Asks, AsksNone, IsFaultBy, IsFaultOf, IsJobOf, IsRefusalBy, asked_check};
 ghost use Rattle.cn_cli.specs.Words.{IsRefusalOf, status_of_words};
 ghost use Rattle.cn_cli.specs.declared.choices.ChoiceFault.TheVariants as choice;
 ghost use Rattle.cn_cli.specs.declared.words.WordsFault.TheVariants.{Memory};
@@ -99,7 +99,7 @@ impl WordsFault {
 
 /// The check that the options ask for.
 fn chosen_check<'a>(alloc: Global, options: &ArgMatches<'a>) -> Result<Job, ChoiceFault<'a>>
-    ensures { let asked = Some (codes "check", rows_of (found_of options.now)) in
+    ensures { let asked = asked_check (rows_of (found_of options.now)) in
         MatchResult result (Asks asked) (λ fault. fault ≢ choice.Memory → AsksNone asked) }
 {
     let width = chosen_width(alloc, options)?;
