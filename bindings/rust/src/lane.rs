@@ -107,9 +107,9 @@ impl Lane {
     }
 
     /// Names clients by one call. Those who follow one another in the list by one entry, up to 64 of them, come in by one
-    /// atomic add and go on together, by one more for all that are on a wire; one who has none of its entry beside it walks
-    /// as by [`Lane::name`]. So clients by one entry cost few adds each, and a list by entries in turn as many as single
-    /// calls.
+    /// atomic add, and go on by one more at each balancer as long as they stay together: it sends half of them either way,
+    /// and those who part walk on their own. One who has none of its entry beside it walks as by [`Lane::name`]. So
+    /// clients by one entry cost fewer adds, and a list by entries in turn as many as single calls.
     ///
     /// Their grants come in the order in which they left, which has not to be that of the clients.
     ///

@@ -75,8 +75,8 @@ impl Taker {
     }
 
     /// Takes a name for each place of a slice, by one entry, and writes them there in no order that is said. All come in
-    /// by one atomic add, and all that are on a wire go on by one more: so a name costs the fewer adds the longer the
-    /// slice is.
+    /// by one atomic add, and go on by one more at each balancer as long as they stay together: so a name costs the fewer
+    /// adds the longer the slice is.
     ///
     /// ```
     /// use renamer::{Kind, Taker};
