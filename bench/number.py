@@ -30,7 +30,8 @@ def wide(bench, rows, width):
 
 
 def rows(bench):
-    ours = ["env", f"RENAMER={bench.proved}", sys.executable, str(measure.ROOT / "tools" / "number"), "--share", "--column"]
+    tool = str(measure.ROOT / "tools" / "number")
+    ours = ["env", f"RENAMER={bench.proved}", sys.executable, tool, "--share", "--column"]
     orders_csv = orders(bench, bench.size(500_000, 20_000))
     pair = [[*ours, "customer_id"], ["mawk", "-F,", AWK]]
     bench.agree(pair, orders_csv, seen=lambda text: text.partition(b"\n")[2])
@@ -39,8 +40,8 @@ def rows(bench):
     for width in (20, 500):
         table = wide(bench, count, width)
         kilobytes = int(bench.written([peak, "/usr/bin/env", *ours[1:], "id"], table, stream="errors"))
-        yield measure.Row(f"peak of rows of {width} bytes", kilobytes / 1000, f"{kilobytes * 1024 / count:.0f} bytes a row",
-                          " MB")
+        each = f"{kilobytes * 1024 / count:.0f} bytes a row"
+        yield measure.Row(f"peak of rows of {width} bytes", kilobytes / 1000, each, " MB")
         table.unlink()
 
 

@@ -33,8 +33,7 @@ PROJECT = tomllib.loads((HERE / "pyproject.toml").read_text())["project"]
 INFO = f"renamer-{VERSION}.dist-info"
 # The tool for CSVs, by its places in the wheel. It stands beside the package, which it does not import.
 TOOL = {"renamer_number.py": ROOT / "tools" / "number",
-        "number_parts/__init__.py": ROOT / "tools" / "number_parts" / "__init__.py",
-        "number_parts/table.py": ROOT / "tools" / "number_parts" / "table.py"}
+        **{f"number_parts/{path.name}": path for path in sorted((ROOT / "tools" / "number_parts").glob("*.py"))}}
 LICENCES = "LICENSE", "THIRD-PARTY"
 # The oldest glibc for which pip takes wheels by a tag of this kind, and the first year of a zip file.
 OLDEST, FIRST_YEAR = 17, 315532800

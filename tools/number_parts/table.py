@@ -46,10 +46,11 @@ class Plain:
         self.fields, self.step = [], 0
 
     def odd(self, width: int) -> tuple[int, bytes, int] | None:
-        """Cuts the rows into fields. Returns the first row that has not so many, as its line, its text and its fields."""
+        """Cuts the rows into fields. Returns the first row that has not so many: its line, its text, its fields."""
         # Each line end is a field of its own.
         end, rows, self.step = self.end.decode(), len(self.lines), width + 1
-        self.fields = self.text.decode("latin-1").replace(end, self.delimiter + end + self.delimiter).split(self.delimiter)
+        apart = self.text.decode("latin-1").replace(end, self.delimiter + end + self.delimiter)
+        self.fields = apart.split(self.delimiter)
         if len(self.fields) == rows * self.step + 1 and self.fields[width::self.step].count(end) == rows:
             return None
         texts = zip(self.lines, self.text.split(self.end))
@@ -93,9 +94,11 @@ class Parsed:
 
     def template(self, mark: bytes) -> bytes:
         """Returns the rows with a mark at the end of each, as `%` reads them."""
-        bodies = [text.rstrip(b"\r\n") for text in self.texts]
-        parts = [b"%b%b%b" % (body.replace(b"%", b"%%"), mark, text[len(body):]) for body, text in zip(bodies, self.texts)]
-        return self.before + b"".join(parts)
+        parts = [self.before]
+        for text in self.texts:
+            body = text.rstrip(b"\r\n")
+            parts += body.replace(b"%", b"%%"), mark, text[len(body):]
+        return b"".join(parts)
 
 
 def line_end(text: bytes) -> bytes:
@@ -170,8 +173,8 @@ class Table:
     def refuse_zeros(self, text: bytes):
         """Refuses a byte 0."""
         if b"\0" in text:
-            raise Fault(1, f"{self.name} has a byte 0, on line {self.line} or after it, as texts in UTF-16 have: write it "
-                           "in UTF-8, as by iconv -f UTF-16 -t UTF-8")
+            raise Fault(1, f"{self.name} has a byte 0, on line {self.line} or after it, as texts in UTF-16 have: write "
+                           "it in UTF-8, as by iconv -f UTF-16 -t UTF-8")
 
     def unreadable(self, line: int, said: str) -> Fault:
         """Returns the fault of a row that the module csv does not read."""
