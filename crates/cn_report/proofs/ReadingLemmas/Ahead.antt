@@ -1,5 +1,5 @@
 -- A reader that has read a stretch ahead of what was gathered.
-use Rattle.cn_report.proofs.Common.{◌≡◌, ℕ, List, [], ◌∷◌, ◌++◌, Bool, Option, Some, length, refl, sym, arith, inl, inr, true, false, ◌∙◌, Result, Ok, Err, HasRead, Record, records_of}
+use Rattle.cn_report.proofs.Common.{◌≡◌, ℕ, List, [], ◌∷◌, ◌++◌, Bool, Option, Some, length, refl, arith, inl, inr, true, false, ◌∙◌, Result, Ok, Err, HasRead, Record, records_of}
 use Rattle.csv.specs.declared.reader.Reader.{Reader}
 use Rattle.cn_report.specs.Reading.Batch.{IsBatchFault, IsOfReading, header_cause, record_cause}
 use Rattle.cn_report.specs.Reading.Gathered.{IsGathered}

@@ -1,5 +1,5 @@
 -- A stretch of a batch: arrivals that are read together, before they are gathered.
-use Rattle.std.specs.Prelude.{ℕ, ◌≡◌, ◌≢◌, ◌<◌, ◌+◌, ◌⊎◌, ◌++◌, ◌∷◌, [], Bool, List, Option, Result, MatchResult, IfErr, OnOk, Ok, Err, Some, true, drop, length, map}
+use Rattle.std.specs.Prelude.{ℕ, ◌≡◌, ◌≢◌, ◌<◌, ◌+◌, ◌⊎◌, ◌++◌, ◌∷◌, [], Bool, List, Option, Result, MatchResult, IfErr, OnOk, Ok, Err, Some, drop, length, map}
 use Rattle.std.specs.Bool.{MatchBool}
 use Rattle.cn_report.specs.Reading.Arrival.{arrival_in, arrivals_in}
 use Rattle.cn_report.specs.Reading.Batch.{IsBatchFault, IsOfReading, batch_cause}

@@ -1,4 +1,4 @@
-use Rattle.cn_report.proofs.Common.{◌≡◌, ◌∙◌, arith, false, Ok, refl}
+use Rattle.cn_report.proofs.Common.{arith, refl}
 use Rattle.std.proofs.lemmas.Result.{IfOk-weaker, err_from_is_err_and}
 use Rattle.cn_report.proofs.ReadingLemmas.Ahead.{after-header, at-end, goes-on, next-ahead, next-fault, same-header, stretch-fault}
 use Rattle.cn_report.proofs.ReadingLemmas.Told.{read-stops}
