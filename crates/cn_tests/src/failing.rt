@@ -30,13 +30,14 @@ fn fails_after_ten<R: Threads + Wait + Sync>(rt: &R, alloc: Global, state: Rando
     let mut writer = Narrow::new(alloc, 10, Then::FailsOnce);
     let ended = done(rt, alloc, state, SINGLE_CLIENT, &mut writer);
     matches!(ended, Some(Err(ServeFault::Write { written: 10 })))
-        && writer.taken.as_slice() == b"network bi"
+        && writer.taken.as_slice() == b"network bi".as_slice()
 }
 
 /// Whether a first read that fails is reported so, and nothing is written.
 fn fails_unread<R: Threads + Wait + Sync>(rt: &R, alloc: Global, state: RandomState) -> bool {
     let mut writer = Narrow::new(alloc, usize::MAX, Then::TakesNothing);
-    let ended = done(rt, alloc, state, Broken { left: b"" }, &mut writer);
+    let empty: &[u8] = b"";
+    let ended = done(rt, alloc, state, Broken { left: empty }, &mut writer);
     let unread = BatchFault {
         at: 0,
         cause: BatchCause::Read,
