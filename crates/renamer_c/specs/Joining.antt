@@ -10,6 +10,8 @@ use Rattle.renamer_c.specs.declared.floor_with_places.Handed.TheVariants.{AtPlac
 use Rattle.renamer_c.specs.Statuses.{status_of_refusal}
 use Rattle.renamer_c.specs.declared.held_lane.returning.JoinStop.{JoinStop}
 use Rattle.renamer_c.specs.declared.held_lane.returning.JoinStop.TheVariants.{Nothing, NothingBack, Memory}
+use Rattle.renamer_c.specs.declared.held_lane.returning.TakeStop.{TakeStop}
+use Rattle.renamer_c.specs.declared.held_lane.returning.TakeStop.TheVariants as take
 use Rattle.renamer_c.specs.declared.refusal.Refusal.{Refusal}
 use Rattle.renamer_c.specs.declared.refusal.Refusal.TheVariants as why
 use Rattle.renamer_c.specs.declared.searches.Search.{Search}
@@ -42,3 +44,22 @@ IsStatusOfJoin lane status = (s : JoinStop) × (status ≡ status_of_refusal (re
 -- each lane was taken in that a search found which went through all places; or lanes were found for centuries
 abbrev pub AreAllIn : Option LaneValue → Option LaneValue → Search → Type 0
 AreAllIn old new s = (n : ℕ) × JoinsTimes n old new × (n ≡ s.found) × (IsWhole s ⊎ (s.found ≡ MOST_JOINS))
+
+-- what a call leaves by which no lane came whole: what was seen, or that the floor has as many owners as it can have, or
+-- that lanes with nothing were found for centuries
+abbrev pub StopsTake : TakeStop → Type 0
+StopsTake take.Nothing = ⊤
+StopsTake (take.NothingBack none) = IsNoneBack none
+StopsTake (take.Full full) = ⊤
+StopsTake (take.Late gone) = gone.number ≡ MOST_JOINS
+
+-- the refusal by which such a call stops
+abbrev pub refusal_of_take : TakeStop → Refusal
+refusal_of_take take.Nothing = why.Nothing
+refusal_of_take (take.NothingBack none) = why.NothingBack
+refusal_of_take (take.Full full) = why.NothingBack
+refusal_of_take (take.Late gone) = why.NothingBack
+
+-- the status of such a call that stopped
+abbrev pub IsStatusOfTake : ℕ → Type 0
+IsStatusOfTake status = (s : TakeStop) × (status ≡ status_of_refusal (refusal_of_take s)) × StopsTake s

@@ -1,14 +1,15 @@
 //! Calls that hand lanes back to their floor, and take them into others.
 
 ghost use Rattle.std.specs.Prelude.{◌≡◌, ◌<◌, None, IfErr, IfOk, OnErr, OnOk};
-ghost use Rattle.renamer_c.specs.Handles.{lane_in};
-ghost use Rattle.renamer_c.specs.Joining.{AreAllIn, IsStatusOfJoin, StopsWith, refusal_of};
-ghost use Rattle.renamer_c.specs.Refusals.{IsRefusal, NotHandedBack, NotJoined, NotJoinedAll};
-ghost use Rattle.renamer_c.specs.Returns.{HandsBack, Joins, JoinsAll};
+ghost use Rattle.renamer_c.specs.Handles.{lane_held, lane_in};
+ghost use Rattle.renamer_c.specs.Joining.{AreAllIn, IsStatusOfJoin, IsStatusOfTake, StopsTake, StopsWith, refusal_of, refusal_of_take};
+ghost use Rattle.renamer_c.specs.Refusals.{IsRefusal, NotHandedBack, NotJoined, NotJoinedAll, NotTakenBack};
+ghost use Rattle.renamer_c.specs.Returns.{HandsBack, Joins, JoinsAll, TakesBack};
 ghost use Rattle.renamer_c.specs.declared.refusal.TheConstants.{DONE};
 
 use crate::handle::Handle;
-use crate::held_lane::returning::JoinStop;
+use crate::held::Held;
+use crate::held_lane::returning::{JoinStop, TakeStop};
 use crate::refusal::DONE;
 use crate::searches::Search;
 use std::alloc::Global;
@@ -108,6 +109,43 @@ pub extern "C" fn renamer_join_all(alloc: Global, lane: &mut Handle) -> u32
 {
     match join_all(alloc, lane) {
         Ok(_) => DONE,
+        Err(stop) => stop.refusal().status(),
+    }
+}
+
+/// Takes a lane of the floor that was handed back, whole, in its box.
+///
+/// # Errors
+/// The first that stands: `Nothing`, `NothingBack`.
+fn take_back(of: &Held) -> Result<Box<Held>, TakeStop>
+    ensures ok { IfOk result (λ b. TakesBack (lane_held of.now) (lane_held b.value)) }
+    ensures stop { IfErr result StopsTake }
+    ensures refused { IfErr result (λ s. NotTakenBack (lane_held of.now) (refusal_of_take s)) }
+{
+    match of.lane() {
+        Ok(lane) => lane.take_back(),
+        Err(_) => Err(TakeStop::Nothing),
+    }
+}
+
+/// Takes a lane of the floor that was handed back, whole: the floor is that of a lane which is only asked.
+#[unsafe(no_mangle)]
+pub extern "C" fn renamer_take_back(of: &mut Handle, back: &mut Handle) -> u32
+    ensures taken { result ≡ DONE → TakesBack (lane_in of.old.held) (lane_in back.new.held) }
+    ensures of { of.new.held ≡ of.old.held }
+    ensures kept { 0 < result → back.new.held ≡ back.old.held }
+    ensures stop { 0 < result → IsStatusOfTake result }
+    ensures refused { 0 < result → IsRefusal (NotTakenBack (lane_in of.old.held)) result }
+{
+    let taken = match of.get_mut() {
+        Some(held) => take_back(held),
+        None => Err(TakeStop::Nothing),
+    };
+    match taken {
+        Ok(taken) => {
+            back.put(taken);
+            DONE
+        }
         Err(stop) => stop.refusal().status(),
     }
 }
