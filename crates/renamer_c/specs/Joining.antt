@@ -7,7 +7,6 @@ use Rattle.renamer_c.specs.Refusals.{WithLane}
 use Rattle.renamer_c.specs.Returns.{IsBack, JoinsTimes}
 use Rattle.renamer_c.specs.declared.floor_with_places.Handed.{Handed}
 use Rattle.renamer_c.specs.declared.floor_with_places.Handed.TheVariants.{AtPlace, NotItsOwn, WithFloor}
-use Rattle.renamer_c.specs.Statuses.{status_of_refusal}
 use Rattle.renamer_c.specs.declared.held_lane.returning.JoinStop.{JoinStop}
 use Rattle.renamer_c.specs.declared.held_lane.returning.JoinStop.TheVariants.{Nothing, NothingBack, Memory}
 use Rattle.renamer_c.specs.declared.held_lane.returning.TakeStop.{TakeStop}
@@ -37,10 +36,6 @@ refusal_of Nothing = why.Nothing
 refusal_of (NothingBack none) = why.NothingBack
 refusal_of (Memory handed) = why.Memory
 
--- the status of a join that stopped
-abbrev pub IsStatusOfJoin : Option LaneValue → ℕ → Type 0
-IsStatusOfJoin lane status = (s : JoinStop) × (status ≡ status_of_refusal (refusal_of s)) × StopsWith lane s
-
 -- each lane was taken in that a search found which went through all places; or lanes were found for centuries
 abbrev pub AreAllIn : Option LaneValue → Option LaneValue → Search → Type 0
 AreAllIn old new s = (n : ℕ) × JoinsTimes n old new × (n ≡ s.found) × (IsWhole s ⊎ (s.found ≡ MOST_JOINS))
@@ -59,7 +54,3 @@ refusal_of_take take.Nothing = why.Nothing
 refusal_of_take (take.NothingBack none) = why.NothingBack
 refusal_of_take (take.Full full) = why.NothingBack
 refusal_of_take (take.Late gone) = why.NothingBack
-
--- the status of such a call that stopped
-abbrev pub IsStatusOfTake : ℕ → Type 0
-IsStatusOfTake status = (s : TakeStop) × (status ≡ status_of_refusal (refusal_of_take s)) × StopsTake s

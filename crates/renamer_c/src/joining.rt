@@ -2,7 +2,7 @@
 
 ghost use Rattle.std.specs.Prelude.{◌≡◌, ◌<◌, None, IfErr, IfOk, OnErr, OnOk};
 ghost use Rattle.renamer_c.specs.Handles.{lane_held, lane_in};
-ghost use Rattle.renamer_c.specs.Joining.{AreAllIn, IsStatusOfJoin, IsStatusOfTake, StopsTake, StopsWith, refusal_of, refusal_of_take};
+ghost use Rattle.renamer_c.specs.Joining.{AreAllIn, StopsTake, StopsWith, refusal_of, refusal_of_take};
 ghost use Rattle.renamer_c.specs.Refusals.{IsRefusal, NotHandedBack, NotJoined, NotJoinedAll, NotTakenBack};
 ghost use Rattle.renamer_c.specs.Returns.{HandsBack, Joins, JoinsAll, TakesBack};
 ghost use Rattle.renamer_c.specs.declared.refusal.TheConstants.{DONE};
@@ -65,7 +65,6 @@ fn join_one(alloc: Global, lane: &mut Handle) -> Result<(), JoinStop>
 pub extern "C" fn renamer_join(alloc: Global, lane: &mut Handle) -> u32
     ensures joined { result ≡ DONE → Joins (lane_in lane.old.held) (lane_in lane.new.held) }
     ensures kept { 0 < result → lane.new.held ≡ lane.old.held }
-    ensures stop { 0 < result → IsStatusOfJoin (lane_in lane.old.held) result }
     ensures refused { 0 < result → IsRefusal (NotJoined (lane_in lane.old.held)) result }
 {
     match join_one(alloc, lane) {
@@ -104,7 +103,6 @@ fn join_all(alloc: Global, lane: &mut Handle) -> Result<Search, JoinStop>
 #[unsafe(no_mangle)]
 pub extern "C" fn renamer_join_all(alloc: Global, lane: &mut Handle) -> u32
     ensures joined { JoinsAll (lane_in lane.old.held) (lane_in lane.new.held) }
-    ensures stop { 0 < result → IsStatusOfJoin (lane_in lane.new.held) result }
     ensures refused { 0 < result → IsRefusal (NotJoinedAll (lane_in lane.new.held)) result }
 {
     match join_all(alloc, lane) {
@@ -134,7 +132,6 @@ pub extern "C" fn renamer_take_back(of: &mut Handle, back: &mut Handle) -> u32
     ensures taken { result ≡ DONE → TakesBack (lane_in of.old.held) (lane_in back.new.held) }
     ensures of { of.new.held ≡ of.old.held }
     ensures kept { 0 < result → back.new.held ≡ back.old.held }
-    ensures stop { 0 < result → IsStatusOfTake result }
     ensures refused { 0 < result → IsRefusal (NotTakenBack (lane_in of.old.held)) result }
 {
     let taken = match of.get_mut() {
