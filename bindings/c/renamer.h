@@ -37,9 +37,9 @@
  * WAITING. No call starts a thread, and in the library's own code no call waits for another thread, wherever that is
  * stopped. But malloc and free of the C library may make threads wait for one another. Calls that open, split, join or
  * close use them, and those that free a quiet floor or a taker. Calls that name clients or let them in use them only if
- * the lane has no room, which renamer_reserve makes. Calls that step, sweep, take names, hand a lane back, take one back
- * or only ask never use them; nor does renamer_free of a lane, which hands it back, if no client is inside. But if the lane is the
- * floor's last, its floor is freed.
+ * the lane has no room, which renamer_reserve makes. Calls that step, sweep, take names, hand a lane back or only ask
+ * never use them; nor does renamer_free of a lane, which hands it back, if no client is inside. But if the lane is the
+ * floor's last, its floor is freed. A call that takes a lane back frees those that it finds with nothing.
  *
  * THE CALLER'S SIDE. What no call can check is the caller's: no pointer is NULL but one that is freed, and that of an
  * array of size 0. An array is as long as its size says; a number or an array that a call writes overlaps nothing else
@@ -317,18 +317,17 @@ RENAMER_CALL uint32_t renamer_hand_back(renamer_lane *lane);
    RENAMER_NONE, _NOTHING_BACK, _MEMORY. One thread at a time. */
 RENAMER_CALL uint32_t renamer_join(renamer_lane *lane);
 
-/* Takes one lane that was handed back to the floor of `of`, and gives it to `back`, whole: with its quota, its grants and
-   its room, and nobody inside. It has quota or grants: a lane that has neither, and is found, is freed, and the search
-   goes on. It is not said which of several lanes comes. `of` may be any lane of the floor, is only asked and does not
-   change, so threads may share it, as they do a lock. The call takes no memory, and frees none but that of lanes with
-   nothing: the new handle has the memory in which the lane was handed back. It is at most nine atomic steps if no other
-   thread takes a lane meanwhile, without a wait. What was written before the lane's hand-back is seen after the call.
+/* Gives a lane that was handed back to the floor of `of` to `back`, whole: with its quota, its grants and its room, and
+   nobody inside. It is not said which of several lanes comes. It has quota or grants: a lane that has neither, and is
+   found, is freed, and the search goes on. `of` may be any lane of the floor. It is only asked, so threads may share
+   it. The call takes no memory, since the lane's handle was handed back with it, and frees none but that of lanes with
+   nothing. What a thread wrote before it handed the lane back is seen by the thread that takes it.
 
-   So lanes with one grant that are handed back are free slots, if all quota of the floor is spent: who takes one back
-   has the slot that its grant names, renamer_grants says which, and who hands it back frees the slot.
+   So a floor whose quota is spent may keep free slots: lanes with one grant each, whose name is the number of a slot.
+   Who takes one back has the slot, renamer_grants says which, and who hands it back frees it.
 
-   RENAMER_NOTHING_BACK says what it says after renamer_join: at one moment of the call no such lane was back. `back` must be
-   none. If it has a lane, that is handed back, or freed, after the call has taken another.
+   RENAMER_NOTHING_BACK says that at one moment of the call no lane with quota or grants was back. `back` should be none:
+   if it has a lane, that is handed back once another has come.
    RENAMER_NONE (`of` is none), _NOTHING_BACK. One thread at a time with one `back`. */
 RENAMER_CALL uint32_t renamer_take_back(const renamer_lane *of, renamer_lane *back);
 
