@@ -19,7 +19,7 @@ use Rattle.renamer_c.specs.declared.searches.TheConstants.{MOST_JOINS}
 -- where a lane ends that is handed back: it is at its place; or its floor, of which it was the only lane, is here; or
 -- it is here, since its place was not its own
 abbrev pub EndsSomewhere : LaneValue → Handed → Type 0
-EndsSomewhere lane (AtPlace p) = IsPut lane p
+EndsSomewhere lane (AtPlace p ended) = IsPut lane p
 EndsSomewhere lane (WithFloor floor) = floor ≡ lane.home
 EndsSomewhere lane (NotItsOwn u here) = IsUnturned 2 u × (here ≡ lane)
 
