@@ -1,5 +1,5 @@
 #!/usr/bin/env python3
-"""What a name takes by network, width, workers and hand: README.md and bench/README.md, *Choosing*.
+"""What a name takes by network, width, workers and hand: docs/CHOOSING.md and bench/README.md, *Choosing*.
 
 Four epochs of 262,144 clients with random identities, whose entries follow by rule, as grants: nanoseconds of processor
 time a name, from reading the batch to writing the list, and by the clock too if there are several workers. It is the

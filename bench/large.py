@@ -1,6 +1,6 @@
 #!/usr/bin/env python3
-"""What one large epoch takes: `renamer run --large` by one worker and by four, beside mawk, Python, sort and sqlite3,
-which find a client that stands twice too; and `renamer check --large` of its list of grants.
+"""What one large epoch takes: `renamer run --large`, beside mawk, Python, sort and sqlite3, which find a client that
+stands twice too; and `renamer check --large` of its list of grants.
 
 An epoch has 1, 10 or 50 million clients with random identities of 64 bits; the network is the tree of width 2, and
 grants are printed. A row is the time by the clock. Beside it stand the processor's time, and the bytes at the peak by
@@ -38,8 +38,7 @@ class Taken:
 
 def ways(bench):
     """The words of each way, by its name. sqlite3 has its table in a new file."""
-    for name, workers in (("one worker", 1), ("four workers", 4)):
-        yield f"run --large, {name}", bench.ours("tree", 2, "--form", "grants", "--large", "--workers", workers)
+    yield "run --large", bench.ours("tree", 2, "--form", "grants", "--large")
     make, take = "create table batch (epoch, client text unique)", ".import --csv --skip 1 /dev/stdin batch"
     peers = {
         "mawk '!seen[$0]++'": ["mawk", "!seen[$0]++"],

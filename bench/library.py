@@ -2,11 +2,13 @@
 """What a name costs by the library, through the crate in bindings/rust, beside other ways to number clients.
 
 Floors of 262,144 names on the trees of width 2 and 64 and the bitonic networks of width 8 and 64, in one, two and four
-threads; beside one atomic add on one word (`AtomicU64::fetch_add`), a table of
-clients behind a mutex (`Mutex<HashMap>`), a slab behind a mutex (`slab`) and one of shards (`sharded_slab`). Each gives
-distinct numbers; those of all but the last are dense. All but that begin with room for all clients. Each thread lets
-its clients in by entries of its own; for the bitonic networks there are rows beside that by which each takes all
-entries. Rows `apart` are of floors whose words lie 128 bytes apart.
+threads; beside these peers: one atomic add on one word for a name (`AtomicU64::fetch_add`), or for 64; the same add,
+and the client written to an array; a vector of clients behind a mutex (`Mutex<Vec>`) and one that needs none
+(`tbb::concurrent_vector`, in C++); a table of clients behind a mutex (`Mutex<HashMap>`); a slab behind a mutex (`slab`)
+and one of shards (`sharded_slab`), of which there are rows too by which each client gives its key back before the next
+comes. Each gives distinct numbers, dense ones but for a slab of shards, and begins with room for all clients, but for
+that slab. Each thread lets its clients in by entries of its own; for the bitonic networks there are rows beside that by
+which each takes all entries. Rows `apart` are of floors whose words lie 128 bytes apart.
 
 Rows of takes and lists of takes are of takers, which keep no list. One thread is compared by processor time, in
 uncontended adds, and on some networks to a walk in plain Rust, which makes as many adds as a name is, each on the word
@@ -18,8 +20,9 @@ rounds, in which all ways run in turn; a run is the median of five epochs after 
 the system. It measures the names only, and not what is made before. Rows of lanes are what a lane takes without a name,
 by one thread: split off, handed back and joined, with as many there as the row says; the same of every eighth by turns,
 while the others are out; and a join while none is back. The rows of slabs are left out if the folder of crates has
-none.
+none, and that of C++ if its header is not there.
 """
+import pathlib
 import statistics
 
 import measure
@@ -30,20 +33,25 @@ THREADS = {1: "one thread", 2: "two threads", 4: "four threads"}
 LANES = (1, 8, 64, 1000, 100000)
 BY_LANES = {"lanes": "split off, handed back and joined", "eighth": "with seven eighths of them out",
             "none": "a join with none back"}
-TABLE, ADD, REFUSED = "a mutex and table", "the add", "a refused call"
+TABLE, ADD, ADD_MANY, REFUSED = "a mutex and table", "the add", "the add of 64", "a refused call"
 # How many adds a name is, and a take.
 ADDS = {"tree 2": 3, "tree 64": 8, "bitonic 64": 23}
 # Walks in plain Rust.
 PLAIN, GRANTED = "a plain walk of {} adds", "a plain walk of {} adds with call and grant"
-SLABS = {"a mutex and slab": "slab", "a sharded slab": "sharded"}
+PEERS = {ADD: "add", ADD_MANY: "add-many", "the add and an array": "holders", "a mutex and vector": "vector",
+         TABLE: "table"}
+SLABS = {"a mutex and slab": "slab", "a mutex and slab, given back": "slab-back",
+         "a sharded slab": "sharded", "a sharded slab, given back": "sharded-back"}
+VECTOR, VECTOR_HEADER = "a concurrent vector", "/usr/include/tbb/concurrent_vector.h"
+BY_LISTS = (" by lists of 64", " by takes of 64")
 ALL_OVER = {f"{network} {width} by all entries": ["all-over", network, str(width)]
             for network, width in NETWORKS if network == "bitonic"}
 APART = {f"{network} {width} apart": ["apart", network, str(width)] for network, width in NETWORKS if width > 2}
 
 
-def ways(namers, slabs):
+def ways(namers, slabs, vector):
     """The words of each way but those of its threads and rounds."""
-    found = {ADD: [namers, "add"], TABLE: [namers, "table"]}
+    found = {name: [namers, word] for name, word in PEERS.items()}
     for network, width in NETWORKS:
         found[f"{network} {width}"] = [namers, "name", network, str(width)]
         found[f"{network} {width} by lists of 64"] = [namers, "many", network, str(width)]
@@ -51,7 +59,7 @@ def ways(namers, slabs):
         found[f"{network} {width} by takes of 64"] = [namers, "take-many", network, str(width)]
     found |= {name: [namers, *words] for name, words in APART.items()}
     found |= {name: [slabs, word] for name, word in SLABS.items() if slabs}
-    return found
+    return found | ({VECTOR: [vector]} if vector else {})
 
 
 def measured(bench, jobs):
@@ -75,7 +83,9 @@ def compared(spent, job, other, by):
 def rows(bench):
     namers = bench.cargo("library", "namers", library=True)
     slabs = bench.cargo("slabs", "slabs") if bench.has_crates("slab", "sharded-slab") else None
-    found = ways(namers, slabs)
+    has_vector, compiler = pathlib.Path(VECTOR_HEADER).exists(), ["c++", "-O3", "-Wl,--no-as-needed", "-ltbb"]
+    vector = bench.compiled(compiler, "library/vector.cpp", "vector") if has_vector else None
+    found = ways(namers, slabs, vector)
     jobs = {(way, threads): [*words, str(threads)] for way, words in found.items() for threads in THREADS}
     jobs |= {(way, threads): [namers, *words, str(threads)] for way, words in ALL_OVER.items() for threads in (2, 4)}
     jobs[REFUSED, 1] = [namers, "refused", "1"]
@@ -89,11 +99,14 @@ def rows(bench):
             by, unit = ("processor", " adds") if threads == 1 else ("clock", "")
             ratio, times = compared(spent, (way, threads), (ADD, threads), by)
             yield measure.Row(f"{way}, {THREADS[threads]}", ratio, f"{times}{' by the clock' * (threads > 1)}", unit)
+    for way in (network + by for network in ("tree 2", "tree 64") for by in BY_LISTS):
+        ratio, times = compared(spent, (way, 1), (ADD_MANY, 1), "processor")
+        yield measure.Row(f"{way}, one thread, to {ADD_MANY}", ratio, times)
     for by, walk in (("", GRANTED), (" by takes", PLAIN), (" by takes of 64", PLAIN)):
         for network, adds in ADDS.items():
             ratio, times = compared(spent, (network + by, 1), (walk.format(adds), 1), "processor")
             yield measure.Row(f"{network}{by}, one thread, to {walk.format(adds)}", ratio, times)
-    for way in [way for way, threads in jobs if threads == 4 and way not in (ADD, TABLE, *SLABS)]:
+    for way in [way for way, threads in jobs if threads == 4 and way not in (*PEERS, *SLABS, VECTOR)]:
         ratio, times = compared(spent, (way, 4), (TABLE, 4), "clock")
         yield measure.Row(f"{way}, four threads, to {TABLE}", ratio, f"{times} by the clock")
 

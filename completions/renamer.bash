@@ -18,7 +18,7 @@ _renamer() {
         help) words='run replay check show' ;;
         *)
             case ${COMP_WORDS[1]} in
-                run) words=' --network --width --workers --hand --form --carry --large --help ' ;;
+                run) words=' --network --width --workers --hand --form --carry --large --together --help ' ;;
                 replay | show) words=' --network --width --help ' ;;
                 check) words=' --width --large --help ' ;;
             esac
@@ -39,9 +39,11 @@ _renamer_tool() {
         --network) words='bitonic periodic tree' ;;
         --width) words='2 4 8 16 32 64 128 256' ;;
         --clients | --seed | --epochs | --at | --beat | --own | --other | --busy) return ;;
+        --column | --epoch | --name | --delimiter) return ;;
         --replay | --output | --csv | --picture | --networks | --strides | --processors | *'<' | *'>') ;;
         *)
             case ${COMP_WORDS[0]##*/} in
+                renamer-number) words=' --column --share --epoch --name --delimiter --help ' ;;
                 renamer-picture) words=' --replay --output --at --table --beat --help ' ;;
                 renamer-schedule) words=' --clients --seed --network --width --epochs --help ' ;;
                 renamer-contention)
@@ -52,11 +54,11 @@ _renamer_tool() {
                 words=${words/ "$given" / }
             done
             # Where a file may stand, options are offered once one is begun.
-            [[ $word == -* || ${COMP_WORDS[0]} != *renamer-picture ]] || words=
+            [[ $word == -* || ${COMP_WORDS[0]} != *renamer-@(number|picture) ]] || words=
             ;;
     esac
     mapfile -t COMPREPLY < <(compgen -W "$words" -- "$word")
 }
 
 complete -o default -F _renamer renamer
-complete -o default -F _renamer_tool renamer-picture renamer-schedule renamer-contention
+complete -o default -F _renamer_tool renamer-number renamer-picture renamer-schedule renamer-contention

@@ -26,7 +26,16 @@ complete -c renamer -n '__fish_seen_subcommand_from run' -l hand -x -a '(seq 64)
 complete -c renamer -n '__fish_seen_subcommand_from run' -l form -x -a 'report grants' \
     -d 'What is written: report (exits and names) or grants (CSV for check)'
 complete -c renamer -n '__fish_seen_subcommand_from run' -l carry -d 'Keep the counters from epoch to epoch'
+complete -c renamer -n '__fish_seen_subcommand_from run' -l together \
+    -d 'All workers walk each epoch at once, on one network'
 complete -c renamer -n '__fish_seen_subcommand_from run check' -l large -d 'Take a large input, as far as memory goes'
+
+complete -c renamer-number -s h -l help -d 'Print help'
+complete -c renamer-number -l column -x -d 'The column of the ids, by its name or its number'
+complete -c renamer-number -l share -d 'Give all rows of an id one name'
+complete -c renamer-number -l epoch -x -d 'The column of the epochs'
+complete -c renamer-number -l name -x -d 'What the new column is called'
+complete -c renamer-number -l delimiter -x -d 'What stands between fields'
 
 complete -c renamer-picture -s h -l help -d 'Print help'
 complete -c renamer-picture -l replay -r -d 'What renamer replay prints'

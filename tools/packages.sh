@@ -86,9 +86,10 @@ Depends: renamer (>= $version), python3 (>= 3.10)
 Suggests: renamer-doc
 Multi-Arch: foreign
 Section: utils
-Description: tools for renamer: pictures, schedules, contention
- Draws counting networks and how clients walk through them, writes random
- schedules, and models how many names a network gives on many processors.
+Description: tools for renamer: CSV, pictures, schedules, contention
+ Adds a column of names to a CSV, draws counting networks and how clients walk
+ through them, writes random schedules, and models how many names a network
+ gives on many processors.
  .
  It also has a check, which says whether what is installed works.
 
@@ -131,6 +132,24 @@ Description: tight one-shot renaming on counting networks, development files
 END
 }
 
+# What Debian's help systems know of the pages.
+registration() {
+    cat << 'END'
+Document: renamer
+Title: renamer
+Author: the renamer developers
+Abstract: What renamer does, how it is used, and what is proved of it.
+Section: Science/Mathematics
+
+Format: HTML
+Index: /usr/share/doc/renamer/docs/walk.html
+Files: /usr/share/doc/renamer/docs/walk.html
+
+Format: Text
+Files: /usr/share/doc/renamer/*.md /usr/share/doc/renamer/docs/*.md
+END
+}
+
 # In units of 1,024 bytes, of which each file takes whole ones.
 installed_size() {
     find "$work/$1/usr" -type f -printf '%s\n' | awk '{ sum += int(($1 + 1023) / 1024) } END { print sum }'
@@ -160,6 +179,8 @@ settle_for_debian() {
     # What is for a processor stands below lib.
     rm -r -- "${crate:?}/lib/$arm"
     ln -sf -- "../../../../../$multiarch/librenamer.a" "$crate/lib/x86_64-unknown-linux-gnu"
+    mkdir -- "$work/renamer-doc/usr/share/doc-base"
+    registration > "$work/renamer-doc/usr/share/doc-base/renamer-doc.renamer"
     printf 'librenamer 1 librenamer1\n' > "$library/DEBIAN/shlibs"
     printf 'activate-noawait ldconfig\n' > "$library/DEBIAN/triggers"
     mkdir -p -- "$work/debian"
@@ -171,7 +192,8 @@ settle_for_debian() {
 
 make_packages() {
     local package architecture
-    maintainer=$(git -C "$root" log -1 --format='%an <%ae>')
+    # Who made the first commit, since the last one is now by this one and now by that.
+    maintainer=$(git -C "$root" log --max-parents=0 --format='%an <%ae>' | tail -n 1)
     cp -R -- "$tree" "$work/rest"
     for package in "${PACKAGES[@]}"; do
         fill "$package"

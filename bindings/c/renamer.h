@@ -223,10 +223,11 @@ RENAMER_CALL uint32_t renamer_reserve(renamer_lane *lane, uint64_t clients);
 RENAMER_CALL uint32_t renamer_name(renamer_lane *lane, uint64_t client, uint64_t entry, uint64_t *name);
 
 /* Names clients by one call. Clients who follow one another in the list by one entry, up to 64 of them, come in by one
-   atomic add and go on together, by one more add for all that are on a wire. A client whose neighbours in the list come
-   by other entries walks as by renamer_name. So a list by entries in turn costs as many adds as single calls, and lists
-   of 64 clients by one entry are the fastest. Of these each client costs 2 adds in place of 8 on tree 64, 10 in place
-   of 23 on bitonic 64, 25 in place of 38 on bitonic 256, and 32 in place of 38 on periodic 64.
+   atomic add, and go on by one more add at each balancer as long as they stay together. A balancer sends half of them
+   either way, and those who part walk on their own from then on, even if they come to one wire again. A client whose
+   neighbours in the list come by other entries walks as by renamer_name. So a list by entries in turn costs as many
+   adds as single calls, and lists of 64 clients by one entry are the fastest. Of these each client costs 2 adds in
+   place of 8 on tree 64, 17 in place of 23 on bitonic 64, and 32 in place of 38 on bitonic 256 and on periodic 64.
 
    The call copies their grants, in the order in which they left, which need not be that of the clients. These are the
    lane's last grants too. It takes memory only if the lane has less room. Of long lists calls of some 2,048 clients are
@@ -390,8 +391,9 @@ RENAMER_CALL uint32_t renamer_split_taker(renamer_taker *taker, renamer_taker *o
    RENAMER_NONE, _NO_SUCH_ENTRY, _QUOTA_SPENT. One thread at a time. */
 RENAMER_CALL uint32_t renamer_take(renamer_taker *taker, uint64_t entry, uint64_t *name);
 
-/* Takes as many names as count says, by one entry, and writes them in no order that is said. All of them come in by one
-   atomic add, and all that are on a wire go on by one more: so a name costs the fewer adds the longer the list is.
+/* Takes as many names as count says, by one entry, and writes them in no order that is said. All takes come in by one
+   atomic add, and go on by one more at each balancer as long as they stay together, as by renamer_name_many. So a name
+   costs the fewer adds the longer the list is.
    RENAMER_NONE, _NO_SUCH_ENTRY, _QUOTA_SPENT. One thread at a time. */
 RENAMER_LIST_CALL uint32_t renamer_take_many(renamer_taker *taker, uint64_t entry, uint64_t *names, size_t count);
 

@@ -1,5 +1,6 @@
 #!/usr/bin/env python3
-"""Makes a wheel of the package, with the shared library in it, and the program if one is named.
+"""Makes a wheel of the package, with the shared library and the tool renamer-number, and with the program if one is
+named.
 
     build_wheel.py FOLDER LIBRARY [PROGRAM]
 
@@ -30,15 +31,22 @@ BUILT = ROOT / "out" / "lib" / "librenamer.so.1", ROOT / "crates" / "renamer" / 
 VERSION = (ROOT / "VERSION").read_text().strip()
 PROJECT = tomllib.loads((HERE / "pyproject.toml").read_text())["project"]
 INFO = f"renamer-{VERSION}.dist-info"
+# The tool for CSVs, by its places in the wheel. It stands beside the package, which it does not import.
+TOOL = {"renamer_number.py": ROOT / "tools" / "number",
+        "number_parts/__init__.py": ROOT / "tools" / "number_parts" / "__init__.py",
+        "number_parts/table.py": ROOT / "tools" / "number_parts" / "table.py"}
+LICENCES = "LICENSE", "THIRD-PARTY"
 # The oldest glibc for which pip takes wheels by a tag of this kind, and the first year of a zip file.
 OLDEST, FIRST_YEAR = 17, 315532800
 
 
 def metadata():
     """What pip reads of the package: a field on each line, and then its page."""
-    fields = [("Metadata-Version", "2.1"), ("Name", PROJECT["name"]), ("Version", VERSION),
+    fields = [("Metadata-Version", "2.4"), ("Name", PROJECT["name"]), ("Version", VERSION),
               ("Summary", PROJECT["description"]), ("License", PROJECT["license"]["text"]),
               ("Requires-Python", PROJECT["requires-python"]), ("Description-Content-Type", "text/markdown")]
+    fields += [("License-File", file) for file in LICENCES]
+    fields += [("Classifier", kind) for kind in PROJECT["classifiers"]]
     fields += [("Requires-Dist", want) for want in PROJECT["dependencies"]]
     for extra, wants in PROJECT["optional-dependencies"].items():
         fields += [("Provides-Extra", extra), *(("Requires-Dist", f'{want} ; extra == "{extra}"') for want in wants)]
@@ -69,9 +77,13 @@ def contents(binaries, name):
             yield f"renamer/{path.name}", path.read_bytes(), 0o644
     for path, place, mode in zip(binaries, ("librenamer.so.1", "bin/renamer"), (0o644, 0o755)):
         yield f"renamer/{place}", stripped(path), mode
+    for place, path in TOOL.items():
+        yield place, path.read_bytes(), 0o644
+    scripts = "".join(f"{name} = {place}\n" for name, place in PROJECT["scripts"].items())
+    yield f"{INFO}/entry_points.txt", f"[console_scripts]\n{scripts}".encode(), 0o644
     wheel = f"Wheel-Version: 1.0\nGenerator: renamer\nRoot-Is-Purelib: false\nTag: {name}\n"
-    for file in ("LICENSE", "THIRD-PARTY"):
-        yield f"{INFO}/{file}", (ROOT / file).read_bytes(), 0o644
+    for file in LICENCES:
+        yield f"{INFO}/licenses/{file}", (ROOT / file).read_bytes(), 0o644
     yield f"{INFO}/METADATA", metadata().encode(), 0o644
     yield f"{INFO}/WHEEL", wheel.encode(), 0o644
 

@@ -16,7 +16,7 @@ LIBRARY, PROGRAM = OUT / "lib" / "librenamer.so.1", ROOT / "crates" / "renamer" 
 # The one on the path may be another than Debian's, whose packages it does not have.
 PYTHONS = (sys.executable, "/usr/bin/python3")
 # The fast tests. Others run in checks/long/python.
-FAST = ("test_floor.py", "test_number.py", "test_pages.py", "test_taker.py")
+FAST = ("test_floor.py", "test_kinds.py", "test_number.py", "test_pages.py", "test_taker.py")
 DEBIAN = {"numpy": "python3-numpy", "pytest": "python3-pytest", "ensurepip": "python3-venv", "mypy": "mypy",
           "distributed": "python3-distributed", "mpi4py": "python3-mpi4py"}
 # The types of renamer.h, as _library.py has them.
@@ -134,9 +134,19 @@ def is_installed(wheel, environment, program):
         first = first[:first.index(">>> renamer.check")]
     elif run([python, "-m", "renamer", "--version"], environment, **own) != run([program, "--version"]):
         raise Wrong("python -m renamer is another program")
+    else:
+        numbers_a_table(environment, own)
     (environment / "first.txt").write_text(first)
     if said := run([python, "-m", "doctest", "first.txt"], environment, **own):
         raise Wrong(said)
+
+
+def numbers_a_table(environment, own):
+    """The tool for CSVs runs by the program that the wheel has."""
+    (environment / "table.csv").write_text("id,day\nbo,1\nanna,1\nbo,2\n")
+    printed = run([environment / "bin" / "renamer-number", "table.csv", "--column", "id", "--share"], environment, **own)
+    if printed != "id,day,name\nbo,1,0\nanna,1,1\nbo,2,0\n":
+        raise Wrong(f"renamer-number printed {printed!r}")
 
 
 def cases(folder):

@@ -1,4 +1,4 @@
-"""The programs of README.md and of the pages of the bindings, built by the commands that stand there."""
+"""The programs of the pages of the bindings, built by the commands that stand there."""
 import dataclasses
 import re
 import shutil
@@ -37,10 +37,9 @@ class Shown:
         return found[0]
 
 
-# The programs, by what their cases are named for. Each of two threads names three clients, but for that of README.md.
+# The programs, by what their cases are named for. Each of two threads names three clients.
 THREADS = [10, 11, 12, 20, 21, 22]
 PROGRAMS = {
-    "README": Shown("README.md", "c", [10, 20], "prog.c", "cc"),
     "c": Shown("bindings/c/README.md", "c", THREADS, "prog.c", "cc"),
     "cpp": Shown("bindings/c/README.md", "cpp", THREADS, "prog.cpp", "c++"),
     "rust": Shown("bindings/rust/README.md", "rust", THREADS),

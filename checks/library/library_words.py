@@ -15,6 +15,10 @@ CLOSED = {".data.rel.ro", ".dynamic", ".got", ".got.plt", ".relro_padding"}
 IN_C = {f"renamer_{name}"
         for name in ("explain", "free", "free_quiet", "free_taker", "name_many", "name_list", "grants", "counts", "holders",
                      "take_many")}
+# The functions that the archive has beside the proved ones: by which it takes memory, the text for each status, and the
+# proved calls that C calls, by other names.
+BESIDE = {"rattle_alloc", "rattle_realloc", "rattle_dealloc", "renamer_explain",
+          *(f"{name}_proved" for name in IN_C - {"renamer_explain"})}
 # The calls that add to words of the table, and those that begin or end a lane or a floor, which go to owners and
 # places. The others have no atomic instruction.
 ADD = {f"renamer_{name}"
@@ -48,6 +52,11 @@ def sizes_of(archive):
     return {name: size for size, name in found}
 
 
+def functions_of(archive):
+    """The functions whose code is there."""
+    return set(re.findall(r" [tTW] (\S+)$", said("nm", archive), re.M))
+
+
 def steps_of(archive):
     """How many atomic adds the code of each call has, and how many other atomic instructions: its own, and those of
     what it calls, for each place where it does."""
@@ -76,6 +85,8 @@ def wrong(archive, shared, proved):
     of_proved = sizes_of(proved)
     for name in sorted({name for name, size in sizes_of(archive).items() if of_proved.get(name) != size} ^ IN_C):
         yield f"{name} is not the proved call, or is one that C should have"
+    for name in sorted((functions_of(archive) - functions_of(proved)) ^ BESIDE):
+        yield f"{name} is in the archive and not proved, or should be there"
     for name, (adds, others) in sorted(steps_of(archive).items()):
         if name not in BEGIN_OR_END and (others or (adds > 0) != (name in ADD)):
             yield f"{name} has {adds} atomic adds, and {others} other atomic instructions"

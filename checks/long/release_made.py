@@ -67,7 +67,8 @@ class Made:
         """Each archive, each package and the wheel have THIRD-PARTY, and SPDX the same list."""
         copies = [self.root / name / "THIRD-PARTY" for name in (NAME, ARM_NAME)]
         with zipfile.ZipFile(self.made / WHEEL) as wheel:
-            copies.append(pathlib.Path(wheel.extract(f"renamer-{VERSION}.dist-info/THIRD-PARTY", self.folder / "unpacked")))
+            member = f"renamer-{VERSION}.dist-info/licenses/THIRD-PARTY"
+            copies.append(pathlib.Path(wheel.extract(member, self.folder / "unpacked")))
         for name in PACKAGES:
             run(["dpkg-deb", "--extract", self.made / name, self.folder / "unpacked"])
             copies.append(self.folder / "unpacked" / "usr/share/doc" / name.partition("_")[0] / "copyright")
@@ -107,7 +108,7 @@ class Made:
         run([self.pages / "checks" / "pages" / "proof_page"])
 
     def wants_this_glibc(self):
-        """What program and library ask of the C library is said by README.md of each archive, by pages and by packages."""
+        """What program and library ask of the C library is said by README.md of each archive, INSTALL.md and packages."""
         for tree, on, program in ((self.tree, "any Linux on x86-64", "no C library"),
                                   (self.root / ARM_NAME, "Linux on ARM", None)):
             library = f"glibc {glibc_of(tree / 'lib' / 'librenamer.so.1')} or later"
@@ -115,15 +116,20 @@ class Made:
             said = f"The program needs {program}, and the library {library}."
             if f"{said}\n" not in (tree / "README.md").read_text():
                 raise Wrong(f"{tree.name}/README.md does not say: {said}")
-            for page in ("README.md", "docs/INSTALL.md"):
-                row = re.search(rf"^\| {on}.*", (self.pages / page).read_text(), re.M)[0]
-                if not all(wanted in row for wanted in {program, library} - {"no C library"}):
-                    raise Wrong(f"{page} says: {row}")
+            row = re.search(rf"^\| {on}.*", (self.pages / "docs" / "INSTALL.md").read_text(), re.M)[0]
+            if not all(wanted in row for wanted in {program, library} - {"no C library"}):
+                raise Wrong(f"docs/INSTALL.md says: {row}")
         for package, file in (("renamer", "bin/renamer"), ("librenamer1", "lib/x86_64-linux-gnu/librenamer.so.1")):
             run(["dpkg-deb", "--extract", self.made / f"{package}_{VERSION}_amd64.deb", self.folder / "packages"])
             depends = run(["dpkg-deb", "--field", self.made / f"{package}_{VERSION}_amd64.deb", "Depends"])
             if f"libc6 (>= {glibc_of(self.folder / 'packages' / 'usr' / file)})\n" != depends:
                 raise Wrong(f"{package} depends on {depends}")
+
+    def programs_have_no_fixed_place(self):
+        """Each start of a program puts it to another place in memory, if the system does so."""
+        for tree in (self.tree, self.root / ARM_NAME):
+            if not re.search(r"^ +Type: +DYN ", run(["readelf", "--file-header", tree / "bin" / "renamer"]), re.M):
+                raise Wrong(f"the program of {tree.name} has one")
 
     def names_are_seen(self):
         """Debuggers find the names of functions in the shared library, and packed in that of the package."""

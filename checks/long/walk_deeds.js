@@ -1,5 +1,6 @@
 "use strict";
 // What checks/long/walk does on docs/walk.html in a browser, through its document, and what has to stand there then.
+// walk_looks.js has how the page looks.
 const tick = time => new Promise(done => setTimeout(done, time));
 const element = id => document.getElementById(id);
 const said = id => id === "answers" ? element(id).textContent : element(id).textContent.replace(/\s+/g, " ").trim();
@@ -90,23 +91,45 @@ const DEEDS = [
         "status", /Nobody is inside: the 10 clients .* 2, 2, 1, 1, 1, 1, 1, 1\./],
     ["a tree", () => choose("example", 3),
         "status", /Nobody is inside: the 15 clients .* came in after 108 had left/],
-    ["stop 1", () => openStop(1), "task", /^Stop 1 of 5\. A balancer sends clients by turns up and down/],
-    ["stop 1 is done", () => press("w"), "task", /^Stop 1 of 5\. By turns: as many left by exit 0/],
-    ["stop 2", () => openStop(2), "task", /^Stop 2 of 5\. In a tree all come in by one entry/],
-    ["stop 2 is done", () => press("w"), "task", /^Stop 2 of 5\. Exits 0, 1, 2 and 3 are taken by turns/],
-    ["stop 3", () => openStop(3), "task", /^Stop 3 of 5\. 101 came in first\. Let 102 overtake it/],
-    ["stop 3 is done", () => walkClient(102, 4), "task", /^Stop 3 of 5\. 102 has left, and 101 has not/],
-    ["stop 4", () => openStop(4), "task", /^Stop 4 of 5\. Try to leave a gap/],
+    ["stop 1", () => openStop(1), "task", /^Stop 1 of 6\. A balancer sends clients by turns up and down/],
+    ["stop 1 is done", () => press("w"), "task", /^Stop 1 of 6\. By turns: as many left by exit 0/],
+    ["stop 2", () => openStop(2), "task", /^Stop 2 of 6\. In a tree all come in by one entry/],
+    ["stop 2 is done", () => press("w"), "task", /^Stop 2 of 6\. Exits 0, 1, 2 and 3 are taken by turns/],
+    ["stop 3", () => openStop(3), "task", /^Stop 3 of 6\. 101 came in first\. Let 102 overtake it/],
+    ["stop 3 is done", () => walkClient(102, 4), "task", /^Stop 3 of 6\. 102 has left, and 101 has not/],
+    ["stop 3 is left", () => walkClient(101, 4),
+        "task", /^Stop 3 of 6\. 102 left before 101, with the name 0, and 101 with the name 1: no client waits/],
+    ["stop 3 is missed", () => { openStop(3); choose("rule", "oldest"); press("w"); },
+        "task", /^Stop 3 of 6\. 101 has left, and 102 did not overtake it\. Press back 5 times: then 101 is inside/],
+    ["nearly back", () => { for (let i = 0; i < 4; ++i) press("ArrowLeft"); }, "task", / Press back once: /],
+    ["back to it", () => press("ArrowLeft"), "task", /^Stop 3 of 6\. 101 came in first\. Let 102 overtake it/],
+    ["it can be done then", () => { choose("rule", "random"); walkClient(102, 4); },
+        "task", /^Stop 3 of 6\. 102 has left, and 101 has not/],
+    ["stop 4", () => openStop(4), "task", /^Stop 4 of 6\. Try to leave a gap/],
     ["a gap for now", () => { walkClient(101, 3); walkClient(102, 4); },
         "status", /its name is 1\. .* The name 0 is still to be given: to those inside, or to who comes in\.$/],
-    ["no gap", () => press("w"), "task", /^Stop 4 of 5\. No gap, and none can be left/],
-    ["no gap again", () => { press("ArrowLeft"); press("w"); }, "task", /^Stop 4 of 5\. No gap, .* \(2 tries\.\)$/],
-    ["stop 5 by its address", goToAddress("#lesson-5"), "task", /^Stop 5 of 5\. A bitonic network of width 8 is made/],
-    ["stop 5 is done", () => press("w"), "task", /^Stop 5 of 5\. Behind each box the bars are a staircase/],
+    ["no gap", () => press("w"), "task", /^Stop 4 of 6\. No gap, and none can be left/],
+    ["no gap again", () => { press("ArrowLeft"); press("w"); }, "task", /^Stop 4 of 6\. No gap, .* \(2 tries\.\)$/],
+    ["stop 5 by its address", goToAddress("#lesson-5"), "task", /^Stop 5 of 6\. A bitonic network of width 8 is made/],
+    ["stop 5 is done", () => press("w"), "task", /^Stop 5 of 6\. To the right of each box the bars are a staircase/],
+];
+
+// What is shown in the last stop and after it. One client comes by each entry of bitonic 8, which has 8 entries, 24
+// balancers and 8 exits: so two pass each balancer, and each adds to an entry, six balancers and an exit.
+const LOADS = [
+    ["stop 6", () => openStop(6), "task", /^Stop 6 of 6\. One counter is one word of memory: all clients add to it,/],
+    ["its bars", () => {}, "loads",
+        /^One counter: 8 of 8 clients add to its only word\.This network: 1 of 8 add to the busiest of its 40 words, /],
+    ["stop 6 is done", () => press("w"), "task",
+        /^Stop 6 of 6\. To one counter's word 8 of 8 clients added, to the busiest .* 2 of 8\. .* added to 8 words\. /],
+    ["its bars then", () => {}, "loads", /^One counter: 8 of 8 clients .* network: 2 of 8 .*, that of balancer 0\.$/],
+    ["one more", () => press("e"), "loads", /^One counter: 9 of 9 clients .* network: 2 of 9 /],
+    ["a tree", () => { choose("kind", "tree"); click("#loads-seen"); press("m"); }, "loads",
+        /^One counter: 8 of 8 clients .* network: 8 of 8 add to the busiest of its 16 words, that of entry 0\.$/],
 ];
 
 async function wrongByDeed(at) {
-    const [name, does, id, wanted] = DEEDS[at];
+    const [name, does, id, wanted] = [...DEEDS, ...LOADS][at];
     does();
     await until(() => wanted.test(said(id)));
     return wanted.test(said(id)) ? [] : [`${name}: ${id} says: ${said(id).slice(-300)}`];
@@ -125,6 +148,53 @@ function wrongStairs() {
     const isStair = it => it.every((width, at) => at === 0 || width <= it[at - 1]) && Math.max(...it) > 0;
     const lengths = widths.map(it => it.length).join();
     return lengths === "4,4,8" && widths.every(isStair) ? [] : [`the stairs are ${JSON.stringify(widths)}`];
+}
+
+// Whether the loads that the page shows are those of the steps that stand in its answers.
+async function wrongLoads() {
+    choose("kind", "bitonic");
+    choose("width", 8);
+    choose("count", 40);
+    press("m");
+    press("w");
+    await until(() => /Nobody is inside/.test(said("status")));
+    const counts = {}, words = /^(?:enter|pass|leave) \d+ (\w+ \d+)/gm;
+    for (const [, word] of said("answers").matchAll(words)) counts[word] = (counts[word] ?? 0) + 1;
+    const most = Math.max(...Object.values(counts)), boxes = [...document.querySelectorAll(".box")];
+    const shareOf = it => parseFloat(it.style.getPropertyValue("--share"));
+    const isRight = (it, at) => shareOf(it) === 100 * (counts[`balancer ${at}`] ?? 0) / 40;
+    const wrong = said("loads").includes(`network: ${most} of 40 add`) ? [] : [`not ${most}: ${said("loads")}`];
+    return boxes.length === 24 && boxes.every(isRight) ? wrong : [...wrong, "a balancer has the colour of another"];
+}
+
+// What a stop shows beside its network ends with the stop.
+function wrongExtras() {
+    const seen = () => ["parts", "loads"].filter(id => getComputedStyle(element(id)).display !== "none").join();
+    return [[5, "parts"], [6, "loads"]].flatMap(([stop, wanted]) => {
+        openStop(stop);
+        const inside = seen();
+        choose("kind", "periodic");
+        const behind = seen();
+        return inside === wanted && !behind ? [] : [`stop ${stop} shows ${inside}, and ${behind} is left after it`];
+    });
+}
+
+// Walk all hurries: 20 steps come at the speed that was chosen, and then each sooner than the one before, or as soon.
+async function wrongHurry() {
+    const later = window.setTimeout, waits = [];
+    openStop(5);
+    choose("speed", 450);
+    window.setTimeout = (what, time) => {
+        if (time !== undefined) waits.push(time);
+        return later(what);
+    };
+    press("w");
+    while (!/Nobody is inside/.test(said("status"))) await new Promise(done => later(done, 50));
+    window.setTimeout = later;
+    choose("speed", 130);
+    const isRight = waits.length === 60 && waits.slice(0, 20).every(it => it === 450) && waits[20] < 450
+        && waits.slice(20).every((it, at) => at === 0 || it <= waits[19 + at]) && waits.at(-1) <= 50;
+    return isRight ? [] : [`walk all waits ${waits}`];
 }
 
 // Whether a schedule that is written into the page has these answers, and its address has it again.
@@ -160,96 +230,4 @@ async function wrongPile() {
 function centre(it) {
     const {left, top, width, height} = it.getBoundingClientRect();
     return [left + width / 2, top + height / 2];
-}
-
-// ---- the look of the page
-
-const isSeen = it => it.checkVisibility();
-const boxOf = it => it.getBoundingClientRect();
-
-// The picture stands first, below it four buttons, and nothing is wider than the window.
-function wrongBegin(least) {
-    const frame = boxOf(element("frame")), wrong = [], width = document.documentElement.clientWidth;
-    const buttons = [...document.querySelectorAll("button, summary, select, input")].filter(isSeen);
-    const four = buttons.filter(it => it.closest("#four"));
-    const isFirst = frame.top < 200 && buttons.every(it => boxOf(it).top >= frame.bottom);
-    if (!isFirst || boxOf(element("four")).top > frame.bottom + 20) wrong.push("the picture is not first");
-    if (four.length !== 4 || buttons.length !== 4 + 5 + 1 + 1) wrong.push(`${buttons.length} buttons are seen`);
-    if (document.documentElement.scrollWidth > width) wrong.push("the page is wider than its window");
-    if (element("frame").scrollWidth > element("frame").clientWidth) wrong.push("bitonic 4 does not fit");
-    element("more").open = true;
-    const small = [...document.querySelectorAll("button, select, summary, [type=number], .entry .finger")]
-        .filter(it => isSeen(it) && Math.min(boxOf(it).height, boxOf(it).width) < least);
-    if (small.length) wrong.push(`below ${least} pixels: ${small.map(it => it.id || it.textContent).join(", ")}`);
-    if (document.documentElement.scrollWidth > width) wrong.push("with more, the page is wider than its window");
-    element("more").open = false;
-    return wrong;
-}
-
-// Entries and exits stay in sight, however far the network is scrolled.
-async function wrongEnds(kind, width) {
-    choose("kind", kind);
-    choose("width", width);
-    const frame = element("frame"), wrong = [];
-    for (const share of [0, 0.5, 1]) {
-        frame.scrollLeft = share * (frame.scrollWidth - frame.clientWidth);
-        const left = boxOf(frame).left + frame.clientLeft, right = left + frame.clientWidth;
-        const isIn = it => it.left >= left - 0.5 && it.right <= right + 0.5;
-        const areIn = () => [...document.querySelectorAll(".entry .body, .exit")].map(boxOf).every(isIn);
-        await until(areIn);
-        if (!areIn()) wrong.push(`of ${kind} ${width} the ends are not in sight at ${share}`);
-    }
-    return wrong;
-}
-
-function luminance(colour) {
-    const parts = colour.match(/[\d.]+/g).slice(0, 3).map(it => it / 255);
-    const [red, green, blue] = parts.map(it => it <= 0.04045 ? it / 12.92 : ((it + 0.055) / 1.055) ** 2.4);
-    return 0.2126 * red + 0.7152 * green + 0.0722 * blue;
-}
-
-// Words have a contrast of 4.5 with what they stand on, in dark windows too.
-function wrongColours(isDark) {
-    const style = getComputedStyle(document.documentElement), probe = document.createElement("p");
-    document.body.append(probe);
-    const value = name => {
-        probe.style.color = style.getPropertyValue(name);
-        return luminance(getComputedStyle(probe).color);
-    };
-    const contrast = (a, b) => (Math.max(a, b) + 0.05) / (Math.min(a, b) + 0.05), wrong = [];
-    for (const ground of ["--paper", "--ground", "--part", "--entry"]) {
-        for (const ink of ["--ink", "--dim", "--blue", "--count", "--fault", "--quiet", "--faint"]) {
-            const found = contrast(value(ink), value(ground));
-            if (found < 4.5) wrong.push(`${ink} on ${ground} has a contrast of ${found.toFixed(2)}`);
-        }
-    }
-    if (value("--paper") > 0.1 === isDark) wrong.push(`the page is not ${isDark ? "dark" : "light"}`);
-    probe.remove();
-    return wrong;
-}
-
-// On paper there are no buttons, and the network is whole.
-function wrongPrint() {
-    const seen = ["four", "controls", "load", "would"].filter(id => isSeen(element(id))), frame = element("frame");
-    const wrong = seen.map(id => `${id} is printed`);
-    if (!isSeen(element("network")) || frame.scrollWidth > frame.clientWidth + 2) wrong.push("the network is cut");
-    if (element("answers").scrollWidth > element("answers").clientWidth) wrong.push("the answers are cut");
-    if (luminance(getComputedStyle(document.body).backgroundColor) < 0.9) wrong.push("paper is not white");
-    return wrong;
-}
-
-// The picture that is saved is an SVG by itself, and the link that is copied has the whole walk.
-async function wrongSaved() {
-    const picture = new DOMParser().parseFromString(pictureText(), "image/svg+xml"), wrong = [];
-    const isWhole = picture.querySelectorAll(".wire").length === document.querySelectorAll(".wire").length;
-    if (picture.querySelector("parsererror") || !isWhole || !picture.querySelector("style")) wrong.push("no picture");
-    let copied = "";
-    navigator.clipboard.writeText = async words => { copied = words; };
-    click("#link");
-    await until(() => copied);
-    if (copied !== location.href) wrong.push(`copied is ${copied}`);
-    await tick(50);
-    click("#save");
-    if (!said("saved").endsWith("bitonic_4.svg.")) wrong.push(`saved: ${said("saved")}`);
-    return wrong;
 }

@@ -1,11 +1,14 @@
 """What is wrong with docs/walk.html in a browser, through its document: walk_deeds.js has what is done there."""
+import itertools
 import json
 import pathlib
 
 from walk_browser import Browser
 
-DEEDS = (pathlib.Path(__file__).resolve().parent / "walk_deeds.js").read_text()
-PHONE = {"width": 390, "height": 844}
+HERE = pathlib.Path(__file__).resolve().parent
+DOCS = HERE.parent.parent / "docs"
+DEEDS = "".join((HERE / name).read_text() for name in ("walk_deeds.js", "walk_looks.js"))
+PHONE, LAPTOP = {"width": 390, "height": 844}, {"width": 1280, "height": 800}
 # A sheet of A4 between its margins.
 SHEET = {"width": 718, "height": 1046}
 # What a finger wants, and what a mouse has at least, in pixels.
@@ -42,13 +45,27 @@ class Trials:
     def act(self, schedule, answers):
         """All deeds, in a wide window."""
         self.open()
-        self.deeds = self.browser.value("DEEDS.length")
-        for deed in range(self.deeds):
+        first, self.deeds = self.browser.value("[DEEDS.length, DEEDS.length + LOADS.length]")
+        for deed in range(first):
             self.wrong += self.browser.value(f"wrongByDeed({deed})")
         self.wrong += self.browser.value("wrongStairs()")
+        for deed in range(first, self.deeds):
+            self.wrong += self.browser.value(f"wrongByDeed({deed})")
+        for wrong in ("wrongLoads()", "wrongExtras()", "wrongHurry()"):
+            self.wrong += self.browser.value(wrong)
         self.wrong += self.browser.value(f"wrongByHand({json.dumps(schedule)}, {json.dumps(answers)})")
         self.wrong += self.browser.value("wrongPile()") + self.browser.value("wrongSaved()")
         self.close("deeds")
+
+    def lead(self):
+        """Whether the links lead to headings of the page, to files beside it, or to papers by their numbers."""
+        self.open()
+        for link in self.browser.value("[...document.querySelectorAll('a')].map(it => it.getAttribute('href'))"):
+            if link.startswith("#"):
+                is_right = self.browser.value(f"document.querySelector({json.dumps(link)}) !== null")
+            else:
+                is_right = link.startswith("https://doi.org/") or (DOCS / link).is_file()
+            self.wrong += [] if is_right else [f"the link {link} leads nowhere"]
 
     def refuse(self):
         """Without WebAssembly there is a sentence."""
@@ -60,9 +77,9 @@ class Trials:
         self.browser.call("Page.removeScriptToEvaluateOnNewDocument", identifier=number)
 
     def print(self):
-        for scheme in ("light", "dark"):
+        for scheme, stop in itertools.product(("light", "dark"), (5, 6)):
             self.open(prefers_color_scheme=scheme, **SHEET)
-            self.browser.value("openStop(5)")
+            self.browser.value(f"openStop({stop})")
             self.browser.print_media(True)
             self.wrong += [f"print: {it}" for it in self.browser.value("wrongPrint()")]
             self.browser.print_media(False)
@@ -94,10 +111,12 @@ def tried_on_page(program, page, folder, schedule, answers, long_walk):
     with Browser(program, folder) as browser:
         trials = Trials(browser, file.as_uri())
         trials.act(schedule, answers)
+        trials.lead()
+        trials.look("a laptop", "wrongFold()", "wrongScroll(false)", **LAPTOP)
         trials.look("wide", f"wrongBegin({MOUSE})", "wrongEnds('periodic', 32)", "wrongColours(false)")
         trials.look("dark", "wrongColours(true)", prefers_color_scheme="dark")
         ends = [f"wrongEnds('{kind}', {width})" for kind, width in (("bitonic", 8), ("tree", 16), ("periodic", 8))]
-        trials.look("390 pixels", f"wrongBegin({FINGER})", *ends, "wrongPile()", **PHONE)
+        trials.look("390 pixels", f"wrongBegin({FINGER})", *ends, "wrongScroll(true)", "wrongPile()", **PHONE)
         trials.print()
         trials.refuse()
         trials.walk_long(long_walk)

@@ -95,10 +95,22 @@ MANUAL = [
     r"the two outputs of balancer 0, then those of balancer 1\b",
     r"the status is 0\.",
     r"What status 3 means\b",
+    r"cut -d, -f1,2 ",
+    r'print \$2 "," \$1 ',
+    r"UTF-16 zcat; iconv -f UTF-16 -t UTF-8\b",
+    r"`0x` in a number\b",
+    r"\buint64\b",
+    r"tail -n \+2, of each\b",
+    r"-k1,1n\b",
+    r'print \$2 "," \$1 ',
+    r"tail -n \+2 FILE \| cut -d, -f1,2 ",
+    r'print "1," NR "," \$0 ',
+    r"no line and status 137:",
     r"A word of the command line that is not UTF-8\b",
     r"by eight workers",
     r"A word that is not UTF-8\b",
-    r"(\b[\w-]+\([13]\),? ?){7}",
+    r"(\b[\w-]+\([13]\),? ?){8}",
+    r"renamer-number\(1\), and",
 ]
 
 

@@ -64,7 +64,7 @@ class Sources:
         """Reads the functions, types, constants and modules of a source."""
         text = re.sub(r"^ *//.*\n", "", text, flags=re.M)
         for found in FUNCTION.finditer(text):
-            end = re.compile(rf"^{found[1]}(?:\{{|\}})|;$", re.M).search(text, found.end())
+            end = re.compile(rf"^{found[1]}(?:\{{|\}})|^(?! *\w+ = ).*;$", re.M).search(text, found.end())
             clauses = set(CLAUSE.findall(text[found.end() : end.end() if end else len(text)]))
             owners = OWNER.findall(text[: found.start()]) if found[1] else []
             for name in (found[2], f"{module}::{found[2]}", *(f"{owner}::{found[2]}" for owner in owners[-1:])):

@@ -11,7 +11,7 @@ ROOT = pathlib.Path(__file__).resolve().parents[2]
 # What a stream of a case may be, beside open; the first is a file.
 OUTPUTS = ("file", "full", "broken", "closed")
 ERRORS = ("file", "full", "closed")
-INPUTS = ("file", "folder", "closed", "terminal")
+INPUTS = ("file", "folder", "closed", "terminal", "pipe")
 # What a case may limit.
 LIMITS = ("growths", "bytes", "writes", "error_writes")
 
@@ -42,6 +42,8 @@ class Case:
     # Whether its first read and its first write are interrupted.
     interrupted: bool = False
     by_script: bool = False
+    # The tool of tools/ that is run, if that is said, by this program.
+    tool: str | None = None
     input: str = "file"
     output: str = "file"
     errors: str = "file"
@@ -138,6 +140,8 @@ class Reader:
             case.wanted_output += f"renamer {(ROOT / 'VERSION').read_text().strip()}\n".encode()
         elif (mark, rest) == ("by", "the script"):
             case.by_script = True
+        elif mark == "by" and rest.startswith("the tool "):
+            case.tool = rest.removeprefix("the tool ")
         else:
             return self.stream(mark, rest)
         return True

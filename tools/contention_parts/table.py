@@ -5,7 +5,9 @@ from .model import WORDS_IN_A_LINE
 
 COLOURS = ("#1d2733", "#b4431f", "#0b4f8a", "#2c7a4b", "#7a3e9d", "#a67c00", "#c2185b", "#00838f")
 # Of each part of the picture, which has the networks of one stride.
-WIDE, HIGH, LEFT, RIGHT, TOP, BOTTOM = 460, 470, 64, 96, 74, 60
+WIDE, HIGH, LEFT, RIGHT, TOP, BOTTOM = 440, 380, 56, 84, 30, 60
+# Above the parts.
+HEAD = 40
 # Labels at the right stand at least so far below one another.
 APART = 16
 
@@ -83,12 +85,23 @@ def places_of_labels(wanted: list[float]) -> list[float]:
     return [height - over for height in found]
 
 
-def part(plot: Plot, processors: list[int], rows: list[Row], names: list[str]) -> list[str]:
+class Colours:
+    """A colour for each network."""
+
+    def __init__(self, rows: list[Row]):
+        self.names = list(dict.fromkeys(row.name for row in rows))
+
+    def of(self, row: Row) -> str:
+        """Returns that of a row."""
+        return COLOURS[self.names.index(row.name) % len(COLOURS)]
+
+
+def lines(plot: Plot, processors: list[int], rows: list[Row], colours: Colours) -> list[str]:
     """Returns the axes, and a line for each row, from left to right by the number of processors."""
     found = ['<g class="grid">', *grid(plot, processors), "</g>"]
     labels = places_of_labels([plot.y(row.rates[-1]) for row in rows])
     for row, height in zip(rows, labels):
-        colour = COLOURS[names.index(row.name) % len(COLOURS)]
+        colour = colours.of(row)
         points = " ".join(f"{plot.x(number):.1f},{plot.y(rate):.1f}" for number, rate in zip(processors, row.rates))
         dashes = "" if row.stride else ' stroke-dasharray="5 4"'
         found.append(f'<polyline points="{points}" fill="none" stroke="{colour}" stroke-width="2"{dashes}/>')
@@ -96,24 +109,42 @@ def part(plot: Plot, processors: list[int], rows: list[Row], names: list[str]) -
     return found
 
 
-def as_picture(title: str, processors: list[int], rows: list[Row]) -> str:
-    """Returns a part for each stride, side by side and by the same axes; what has no stride stands in each."""
-    plot, names = Plot(processors, rows), list(dict.fromkeys(row.name for row in rows))
-    strides = sorted({row.stride for row in rows} - {0}) or [0]
-    wide, parts = WIDE * len(strides), []
+def dots(plot: Plot, measured: list[Row], colours: Colours) -> list[str]:
+    """Returns a dot for each rate that was measured, by one thread, by two, and so on."""
+    return [f'<circle cx="{plot.x(threads):.1f}" cy="{plot.y(rate):.1f}" r="3" fill="{colours.of(row)}"/>'
+            for row in measured for threads, rate in enumerate(row.rates, 1)]
+
+
+def said_of(stride: int) -> str:
+    """Returns how words of a stride lie."""
+    if not stride:
+        return ""
+    words = max(1, WORDS_IN_A_LINE // stride)
+    how = "words apart, each with a cache line of its own" if words == 1 else f"{words} words to a cache line"
+    return f"Stride {stride}: {how}"
+
+
+def as_picture(title: str, processors: list[int], rows: list[Row], measured: list[Row] = ()) -> str:
+    """Returns a part for each stride, the greatest first, one below the other and by the same axes; what has no stride
+    stands in each. What was measured is by one thread, by two, and so on."""
+    plot, colours = Plot(processors, [*rows, *measured]), Colours(rows)
+    strides = sorted({row.stride for row in rows} - {0}, reverse=True) or [0]
+    high, parts = HEAD + HIGH * len(strides), []
     for at, stride in enumerate(strides):
-        own = [row for row in rows if row.stride in (0, stride)]
-        together = max(1, WORDS_IN_A_LINE // stride) if stride else 0
-        said = f"stride {stride}: {together} word{'s' * (together > 1)} in a cache line" if stride else ""
-        parts += [f'<g transform="translate({WIDE * at} 0)">', f'<text x="{LEFT}" y="60">{said}</text>',
-                  *part(plot, processors, own, names), "</g>"]
+        own, found = ([row for row in some if row.stride in (0, stride)] for some in (rows, measured))
+        parts += [f'<g transform="translate(0 {HEAD + HIGH * at})">',
+                  f'<text x="{LEFT}" y="{TOP - 14}">{said_of(stride)}</text>',
+                  *lines(plot, processors, own, colours), *dots(plot, found, colours), "</g>"]
+    ends = ", ".join(f"{row.label} {row.rates[-1]:.0f}" for row in rows)
     return "\n".join([
-        f'<svg xmlns="http://www.w3.org/2000/svg" width="{wide}" height="{HIGH}" viewBox="0 0 {wide} {HIGH}">',
+        f'<svg xmlns="http://www.w3.org/2000/svg" role="img" width="{WIDE}" height="{high}" '
+        f'viewBox="0 0 {WIDE} {high}">',
         f"<title>{title}</title>",
+        f"<desc>Lines, by the number of processors on a logarithmic scale. At {processors[-1]}: {ends}.</desc>",
         '<style>text { font-family: "DejaVu Sans", Verdana, Arial, sans-serif; font-size: 12px; fill: #1d2733 }',
         ".grid path { stroke: #d5dbe3; fill: none }</style>",
-        f'<rect width="{wide}" height="{HIGH}" fill="white"/>',
-        f'<text x="{LEFT}" y="28" style="font-size: 15px">{title}</text>',
+        f'<rect width="{WIDE}" height="{high}" fill="white"/>',
+        f'<text x="16" y="26" style="font-size: 13px; font-weight: bold">{title}</text>',
         *parts,
         "</svg>\n",
     ])

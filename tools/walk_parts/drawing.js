@@ -22,6 +22,8 @@ class Drawing {
         this.lines = [...svg.querySelectorAll(".wire")];
         this.counts = [...svg.querySelectorAll(".count")];
         this.stairs = [...svg.querySelectorAll(".stair")];
+        // Of words, in the order that loadsOf has.
+        this.words = [".entry .body", ".box", ".exit-box"].flatMap(it => [...svg.querySelectorAll(it)]);
         this.tokens = new Tokens(svg.querySelector("#tokens"), wiring, places);
     }
 
@@ -76,9 +78,12 @@ class Drawing {
     }
 
     exits() {
-        const {places} = this;
-        return this.wiring.exitWires.map((wire, exit) =>
-            text(places.right + 0.6 * places.font, places.wireY(wire), places.exitWords(exit), 'class="exit"'));
+        const {places} = this, {font, right} = places;
+        return this.wiring.exitWires.map((wire, exit) => {
+            const words = places.exitWords(exit), width = places.room(words) + 0.6 * font, y = places.wireY(wire);
+            return `<rect class="exit-box" x="${right + 0.3 * font}" y="${y - 0.8 * font}" width="${width}" `
+                + `height="${1.6 * font}" rx="3"/>${text(right + 0.6 * font, y, words, 'class="exit"')}`;
+        });
     }
 
     // Where the bar of a wire begins, behind its count, and how long it is at most.
@@ -135,6 +140,9 @@ class Drawing {
             this.stairs[at].setAttribute("width", this.stair(wire)[1] * came[wire] / most);
         });
     }
+
+    // The greater the share of clients is that added to a word, the deeper is its colour.
+    showLoads(shares) { shares.forEach((share, at) => this.words[at].style.setProperty("--share", share)); }
 
     // Marks the wire to which a client would go next, if it is inside and goes by a balancer.
     mark(it, floor) {

@@ -19,6 +19,8 @@ class Floor {
         this.time = this.inside = 0;
         // How many came to each wire.
         this.came = this.wiring.ends.map(() => 0);
+        // How many left by each exit.
+        this.gone = this.wiring.exitWires.map(() => 0);
         // Who got each name, in the order in which they left, and the greatest name.
         this.left = [];
         this.holders = [];
@@ -96,6 +98,7 @@ class Floor {
     leave(it, {place, number, next}) {
         Object.assign(it, {wire: null, exit: place, name: next, left: this.time});
         this.inside -= 1;
+        this.gone[place] += 1;
         this.note(it);
         this.takeIn(it.lane);
         this.last = {what: "leave", id: it.id, exit: place, number, name: next};

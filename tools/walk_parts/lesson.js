@@ -1,6 +1,10 @@
 "use strict";
-// The lesson: five stops, each with its network, its clients, what is to be done, when that is done and what was seen.
+// The lesson: six stops, each with its network, its clients, what is to be done, when that is done and what was seen.
 const isQuiet = floor => floor.left.length > 0 && !floor.inside;
+const hasLeft = it => it?.wire === null;
+// Who is to be overtaken in the third stop, and by whom.
+const FIRST = "101", SECOND = "102";
+const times = count => ["", "once", "twice"][count] ?? `${count} times`;
 
 const LESSON = [
     {
@@ -22,8 +26,7 @@ const LESSON = [
     {
         title: "overtaking", network: "bitonic-4", schedule: "e101.0,e102.1",
         task: "101 came in first. Let 102 overtake it: 102 has to leave while 101 is inside.",
-        isDone: ({clients}) => clients.get("102")?.wire === null && clients.get("101")?.wire !== null,
-        done: "102 has left, and 101 has not: no client waits for another. Let 101 leave too, and look at the names.",
+        isDone: hasOvertaken, done: overtakenWords, missed: missedWords,
     },
     {
         title: "a gap?", network: "bitonic-4", schedule: "e101.0,e102.0,e103.3",
@@ -36,11 +39,18 @@ const LESSON = [
     {
         title: "parts", network: "bitonic-8",
         schedule: [...enters(10, 101, at => [0, 0, 5][at % 3]), ...rounds(10, 101, 1)].join(),
-        task: "A bitonic network of width 8 is made of two of width 4 and a merger. Behind each box the bars show how"
-            + " many clients came by each wire. Press walk all.",
-        isDone: isQuiet, hasParts: true,
-        done: "Behind each box the bars are a staircase: by an upper wire came as many clients as by a lower one, or"
-            + " one more. The merger makes one staircase of two.",
+        task: "A bitonic network of width 8 is made of two of width 4 and a merger. To the right of each box bars"
+            + " show how many clients came by each wire. Press walk all.",
+        isDone: isQuiet, shows: "parts-seen",
+        done: "To the right of each box the bars are a staircase: by an upper wire came as many clients as by a"
+            + " lower one, or one more. The merger makes one staircase of two.",
+    },
+    {
+        title: "why", network: "bitonic-8", schedule: enters(8, 101, at => at).join(),
+        task: "One counter is one word of memory: all clients add to it, one after another. Here each entry, balancer"
+            + " and exit has a word of its own. Press walk all: how many add to the busiest?",
+        isDone: isQuiet, shows: "loads-seen",
+        done: loadWords,
     },
 ];
 const WELCOME = "Three clients wait. Click 101, or press step: balancers send clients by turns up and down. Whenever"
@@ -50,10 +60,35 @@ const GOING = "Click a client to take it past its next balancer, or an entry to 
 
 const isDone = ({lesson, floor}) => lesson !== null && LESSON[lesson].isDone(floor);
 
+// Whether the second has left, and the first, if it has left too, later.
+function hasOvertaken({clients}) {
+    const first = clients.get(FIRST), second = clients.get(SECOND);
+    return hasLeft(second) && !(hasLeft(first) && first.left < second.left);
+}
+
+function overtakenWords({floor: {clients}}) {
+    const first = clients.get(FIRST), second = clients.get(SECOND);
+    if (hasLeft(first)) {
+        return `${SECOND} left before ${FIRST}, with the name ${second.name}, and ${FIRST} with the name ${first.name}:`
+            + " no client waits for another.";
+    }
+    return `${SECOND} has left, and ${FIRST} has not: no client waits for another. Let ${FIRST} leave too, and look at`
+        + " the names.";
+}
+
+// How far back the first is inside, if it has left without being overtaken.
+function missedWords({floor: {clients}, done}) {
+    const first = clients.get(FIRST);
+    if (!hasLeft(first)) return "";
+    return `${FIRST} has left, and ${SECOND} did not overtake it. Press back ${times(done - first.leftAfter)}: then`
+        + ` ${FIRST} is inside again, and ${SECOND} can leave before it.`;
+}
+
 // What stands above the picture.
 function taskWords(page) {
     const {lesson, isWelcome, tries} = page;
     if (lesson === null) return isWelcome ? WELCOME : GOING;
-    const {task, done} = LESSON[lesson], begin = `Stop ${lesson + 1} of ${LESSON.length}.`;
-    return isDone(page) ? `${begin} ${done}${tries > 1 ? ` (${tries} tries.)` : ""}` : `${begin} ${task}`;
+    const {task, done, missed} = LESSON[lesson], begin = `Stop ${lesson + 1} of ${LESSON.length}.`;
+    if (!isDone(page)) return `${begin} ${missed?.(page) || task}`;
+    return `${begin} ${done.call ? done(page) : done}${tries > 1 ? ` (${tries} tries.)` : ""}`;
 }

@@ -7,7 +7,7 @@ const BUTTONS = {
     each: page => page.letInEach(),
     many: page => page.letInMany(),
     step: page => page.stepByRule(),
-    walk: page => page.repeat("walk", () => page.stepByRule()),
+    walk: page => page.repeat("walk", () => page.stepByRule(), true),
     turn: page => page.act("turn,,"),
     clear: page => page.open(page.wiring.kind, page.wiring.width, page.carries, []),
     back: page => page.goTo(page.done - 1),
@@ -38,7 +38,7 @@ function listen(page) {
     on("width", "change", () => open([]));
     on("carry", "change", () => open(page.commands, page.done));
     on("moment", "input", () => page.goTo(Number($("moment").value)));
-    on("parts-seen", "change", () => {});
+    for (const id of EXTRAS) on(id, "change", () => {});
     on("fit", "change", () => {
         $("frame").classList.toggle("whole", $("fit").checked);
         page.draw();
@@ -94,7 +94,10 @@ function listenToNetwork(page) {
 function listenToFrame(page) {
     const stick = () => page.drawing.stick($("frame"));
     $("frame").addEventListener("scroll", stick);
-    window.addEventListener("resize", stick);
+    window.addEventListener("resize", () => {
+        stick();
+        showWider();
+    });
     page.narrow.addEventListener("change", () => {
         page.draw();
         page.attempt(() => {});

@@ -6,6 +6,10 @@ const MOST_COMMANDS = 20000;
 const FINGER = 44;
 // So many commands are done again at once. Of longer walks the page says how far it is, each so many milliseconds.
 const SHORT_WALK = 1000, SLICE = 60;
+// Who hurries waits as long as others so many times, then each time this part of it, and so many milliseconds at least.
+const UNHURRIED = 20, SHORTER = 0.8, LEAST_WAIT = 40;
+// What may be shown beside a network. A stop of the lesson shows one of them at most, until it ends.
+const EXTRAS = ["parts-seen", "loads-seen"];
 // Who waits when the page opens.
 const WAITING = "e101.0,e102.1,e103.3";
 
@@ -14,7 +18,7 @@ const random = below => Math.floor(Math.random() * below);
 
 class Page {
     constructor(library) {
-        Object.assign(this, {library, floor: null, timer: null, fault: "", commands: [], done: 0, marked: null});
+        Object.assign(this, {library, floor: null, timer: null, fault: "", commands: [], done: 0, lesson: null});
         this.narrow = matchMedia("(max-width: 640px)");
         this.open("bitonic", 4, false, commandsOf(WAITING));
         this.isWelcome = true;
@@ -24,12 +28,15 @@ class Page {
     open(kind, width, carries, commands, done = commands.length) {
         if (commands.length > MOST_COMMANDS) throw Error(`a schedule has ${MOST_COMMANDS} records at most here`);
         const wiring = wiringOf(this.library, kind, width);
+        if (this.lesson !== null) this.showExtra(null);
         Object.assign(this, {wiring, carries, commands, hint: "", lesson: null, tries: 0, marked: null});
         this.isWelcome = false;
         this.draw();
         this.goTo(Math.min(done, commands.length));
         $("frame").scrollTo(0, 0);
     }
+
+    showExtra(shown) { for (const id of EXTRAS) $(id).checked = id === shown; }
 
     draw() { this.drawing = new Drawing($("network"), this.wiring, this.places()); }
 
@@ -70,6 +77,7 @@ class Page {
             throw why;
         }
         this.last = this.floor.clients.get(this.floor.last.id) ?? null;
+        if (this.floor.last.what === "leave") this.last.leftAfter = this.done;
         this.done += 1;
     }
 
@@ -115,12 +123,14 @@ class Page {
     }
 
     // Repeats something until it stops itself, or a button does.
-    repeat(name, what) {
+    repeat(name, what, hurries = false) {
         this.running = name;
-        const again = () => {
-            this.timer = setTimeout(() => { this.attempt(what); if (this.timer) again(); }, Number($("speed").value));
+        const again = count => {
+            const wait = Number($("speed").value), part = hurries ? SHORTER ** Math.max(0, count - UNHURRIED + 1) : 1;
+            const next = () => { this.attempt(what); if (this.timer) again(count + 1); };
+            this.timer = setTimeout(next, Math.max(LEAST_WAIT, part * wait));
         };
-        again();
+        again(0);
     }
 
     stop() {
@@ -146,10 +156,10 @@ class Page {
     }
 
     openLesson(at) {
-        const {network, schedule, hasParts} = LESSON[at];
+        const {network, schedule, shows} = LESSON[at];
         this.openAt(network, schedule);
         this.lesson = at;
-        $("parts-seen").checked = Boolean(hasParts);
+        this.showExtra(shows);
     }
 
     loadSchedule() {

@@ -16,6 +16,8 @@ function showAll(page) {
     showAnswers(page);
     showControls(page);
     showTask(page);
+    showLoads(page);
+    showWider();
     follow(page.last);
     page.drawing.stick($("frame"));
     writeWalk(page);
@@ -62,6 +64,9 @@ function follow(client) {
     const away = Math.max(Math.abs(x - frame.scrollLeft) / width, Math.abs(y - frame.scrollTop) / height);
     if (away > 1 / 3) frame.scrollTo(x, y);
 }
+
+// Says below the picture that it scrolls, if it is wider than its frame.
+function showWider() { $("wider").hidden = $("frame").scrollWidth <= $("frame").clientWidth; }
 
 // Marks where the client would go at which the reader points.
 function showMark({drawing, floor, marked}) {

@@ -1,30 +1,31 @@
-//! What a name takes by one of these ways, in so many threads: one atomic add on one word, a table of clients behind a
-//! mutex, a walk in plain Rust, or a floor of this repository's library.
+//! What a name takes by one of these ways, in so many threads: atomic adds on one word, a table of clients, a walk in
+//! plain Rust, or a floor of this repository's library.
 //!
-//!     namers add|table|refused THREADS ROUNDS
+//!     namers add|add-many|holders|vector|table|refused THREADS ROUNDS
 //!     namers walk|granted-walk ADDS THREADS ROUNDS
 //!     namers name|apart|many|all-over NETWORK WIDTH THREADS ROUNDS
 //!     namers take|take-many NETWORK WIDTH THREADS ROUNDS
 //!
-//! Or what a lane takes by itself, without a name, if so many are there: to be split off, handed back and joined by another,
-//! all of them or an eighth by turns; or a join while none is back.
+//! Or what a lane takes by itself, without a name, if so many are there: to be split off, handed back and joined by
+//! another, all of them or an eighth by turns; or a join while none is back.
 //!
 //!     namers lanes|eighth|none LANES 1 ROUNDS
 //!
 //! By all but `all-over`, by which each thread lets its clients in by all entries, each has entries of its own.
 //! By `apart` the words of the floor lie apart.
+mod peers;
 mod timing;
 mod walks;
 
 use renamer::{Client, Error, Floor, Grant, Kind, Lane, Taker};
-use std::collections::HashMap;
 use std::env;
 use std::hint::black_box;
 use std::process;
-use std::sync::atomic::{AtomicU64, Ordering};
-use std::sync::Mutex;
 use timing::{in_threads, keep_memory, print_median, Spent, CLIENTS};
 use walks::{granted_walk, walk};
+
+/// How many clients or takes a list has.
+const LIST: usize = 64;
 
 /// The identities of a thread's clients: they rise, and are no small numbers.
 fn clients(thread: u64, threads: u64) -> impl Iterator<Item = u64> {
@@ -34,29 +35,6 @@ fn clients(thread: u64, threads: u64) -> impl Iterator<Item = u64> {
 /// The sum of the names of an epoch, which shows that they are 0 to k-1.
 fn is_tight(sum: u64) {
     assert_eq!(sum, CLIENTS * (CLIENTS - 1) / 2, "the names are not tight");
-}
-
-fn add(threads: u64) -> Spent {
-    let counter = AtomicU64::new(0);
-    let (spent, sum) = in_threads((0..threads).collect(), |thread| {
-        clients(*thread, threads).map(|_| counter.fetch_add(1, Ordering::SeqCst)).sum()
-    });
-    is_tight(sum);
-    spent
-}
-
-fn table(threads: u64) -> Spent {
-    let names = Mutex::new(HashMap::with_capacity(CLIENTS as usize));
-    let (spent, sum) = in_threads((0..threads).collect(), |thread| {
-        let name = |client| {
-            let mut names = names.lock().expect("no thread panics");
-            let next = names.len() as u64;
-            *names.entry(client).or_insert(next)
-        };
-        clients(*thread, threads).map(name).sum()
-    });
-    is_tight(sum);
-    spent
 }
 
 /// A lane for each thread, with room for its clients.
@@ -108,7 +86,6 @@ fn name(open: Open, kind: Kind, width: u32, entering: Entering, threads: u64) ->
 
 /// Names clients by lists of 64, the same list again and again: a floor compares no clients.
 fn many(kind: Kind, width: u32, threads: u64) -> Spent {
-    const LIST: usize = 64;
     let floor = Floor::open(kind, width, CLIENTS).expect("there is memory");
     let (spent, sum) = in_threads(lanes(&floor, threads), |(thread, lane)| {
         let entries = entries(lane.entries(), Entering::Apart, *thread, threads);
@@ -150,7 +127,7 @@ fn take(kind: Kind, width: u32, threads: u64) -> Spent {
 /// Takes names by lists of 64.
 fn take_many(kind: Kind, width: u32, threads: u64) -> Spent {
     let (spent, sum) = in_threads(takers(kind, width, threads), |(taker, entries)| {
-        let mut names = [0; 64];
+        let mut names = [0; LIST];
         let mut sum = 0;
         for entry in entries.take((CLIENTS / threads) as usize / names.len()) {
             taker.take_many(entry, &mut names).expect("there is quota");
@@ -220,7 +197,8 @@ fn number<N: std::str::FromStr>(word: &str) -> N {
 }
 
 fn usage() -> ! {
-    eprintln!("namers: add|table|refused THREADS ROUNDS, walk|granted-walk ADDS THREADS ROUNDS, or");
+    eprintln!("namers: add|add-many|holders|vector|table|refused THREADS ROUNDS, or");
+    eprintln!("        walk|granted-walk ADDS THREADS ROUNDS, or");
     eprintln!("        name|apart|many|all-over bitonic|periodic|tree WIDTH THREADS ROUNDS, or");
     eprintln!("        take|take-many bitonic|periodic|tree WIDTH THREADS ROUNDS, or");
     eprintln!("        lanes|eighth|none LANES 1 ROUNDS");
@@ -241,8 +219,11 @@ fn main() {
     let words: Vec<String> = env::args().skip(1).collect();
     let words: Vec<&str> = words.iter().map(String::as_str).collect();
     let round: Box<dyn Fn(u64) -> Spent> = match words[..] {
-        ["add", ..] => Box::new(add),
-        ["table", ..] => Box::new(table),
+        ["add", ..] => Box::new(peers::add),
+        ["add-many", ..] => Box::new(peers::add_many),
+        ["holders", ..] => Box::new(peers::holders),
+        ["vector", ..] => Box::new(peers::vector),
+        ["table", ..] => Box::new(peers::table),
         ["refused", ..] => Box::new(refused),
         ["walk", adds, ..] => Box::new(move |threads| walk(number(adds), threads)),
         ["granted-walk", adds, ..] => Box::new(move |threads| granted_walk(number(adds), threads)),

@@ -1,5 +1,5 @@
 /*
- * A pool of worker numbers. Four threads start workers, each as many as it happens to need. A worker's number is its
+ * Numbers for workers. Four threads start workers, each as many as it happens to need. A worker's number is its
  * place in one array, which the threads fill at once and without a lock: no two workers have the same number, and when
  * the threads have ended the numbers have no gap. Then the lanes are joined and the floor is closed, which says who has
  * which number.

@@ -8,7 +8,7 @@ THREADS, EACH = 16, 100
 
 
 def main() -> bool:
-    named = {}
+    named: dict[int, int] = {}
     with renamer.Floor("tree", 8, quota=THREADS * EACH) as floor:
 
         def name_some(first: int) -> dict[int, int]:

@@ -88,7 +88,7 @@ def test_a_duplicate_is_found_in_other_partitions():
 
     with pytest.raises(renamer.Duplicate, match="77"):
         here(renamer.dask.number(frame(1, twice), "client"))
-    with pytest.raises(renamer.Refusal, match="Duplicate"):
+    with pytest.raises(renamer.Refusal, match="^client 77 stands twice, at the places . and .$"):
         here(renamer.dask.number(frame(1, twice), "client", proved=True))
     assert len(here(renamer.dask.number(frame(1, twice), "client", epoch="day"))) == 2 * PARTS
     shared = here(renamer.dask.number(frame(1, twice), "client", share=True))
@@ -107,6 +107,22 @@ def test_what_cannot_be_is_refused():
         renamer.dask.number(frame(), "client", share=True, proved=True)
     with pytest.raises(ValueError, match="has a column 'day' already"):
         renamer.dask.number(frame(), "client", name="day")
+    said = "there is no column 'cleint': the columns are 'client', 'day'"
+    for wrong in (
+        lambda: renamer.dask.number(frame(), "cleint"),
+        lambda: renamer.dask.number(frame(), "client", epoch="cleint"),
+        lambda: renamer.dask.number(frame(), "cleint", epoch="day", whole=True),
+        lambda: renamer.dask.check(frame(), "cleint"),
+    ):
+        with pytest.raises(KeyError) as found:
+            wrong()
+        assert found.value.args == (said,)
+    part = pd.DataFrame({"client": [1], "name": [0]})
+    named, client = part["name"], frame()["client"]
+    for wrong, given in ((part, "pandas.DataFrame"), (named, "pandas.Series"), (client, "dask.Series")):
+        for call in (lambda: renamer.dask.number(wrong, "client"), lambda: renamer.dask.check(wrong)):
+            with pytest.raises(TypeError, match=f"a data frame of Dask is wanted, .*, and not {given}"):
+                call()
 
 
 def test_a_partition_that_changed_is_an_error():
@@ -166,27 +182,14 @@ def test_check_by_the_program(client):
         renamer.dask.check(dd.concat([named, named.partitions[0]]))
 
 
-def test_check_looks_at_all_blocks(monkeypatch):
-    """Blocks of ten: each that is there is tight by itself."""
-    monkeypatch.setattr(renamer.dask, "MOST_RECORDS", 10)
-    monkeypatch.setattr(renamer._program, "MOST_RECORDS", 10)
-    names = pd.DataFrame({"name": np.random.default_rng(1).permutation(95)})
+@pytest.mark.parametrize("name", ["name", "block", "epoch", "a b"])
+def test_check_of_a_column_of_any_name(name):
+    names = pd.DataFrame({"block": 0, name: np.random.default_rng(1).permutation(95)})
     with dask.config.set(scheduler="sync"):
-        assert renamer.dask.check(dd.from_pandas(names, npartitions=4)) == 95
-        assert renamer.dask.check(dd.from_pandas(names[:0], npartitions=1)) == 0
-        for left in (names.name != 39, names.name // 10 != 4, names.name > 9):
+        assert renamer.dask.check(dd.from_pandas(names, npartitions=4), name) == 95
+        assert renamer.dask.check(dd.from_pandas(names[:0], npartitions=1), name) == 0
+        for left in (names[name] != 39, names[name] > 9):
             with pytest.raises(renamer.NotTight):
-                renamer.dask.check(dd.from_pandas(names[left], npartitions=4))
-
-
-def test_check_of_a_frame_that_changes():
-    """The second time that it is computed it has no names."""
-    looks = []
-
-    def part():
-        looks.append(1)
-        return pd.DataFrame({"name": range(2 if len(looks) == 1 else 0)})
-
-    changing = dd.from_delayed([dask.delayed(part, pure=False)()], meta={"name": "i8"}, verify_meta=False)
-    with pytest.raises(renamer.NotTight, match="there were 2 names"), dask.config.set(scheduler="sync"):
-        renamer.dask.check(changing)
+                renamer.dask.check(dd.from_pandas(names[left], npartitions=4), name)
+        with pytest.raises(renamer.NotTight, match="none is 0"):
+            renamer.dask.check(dd.from_pandas(pd.DataFrame({name: [5]}), npartitions=1), name)

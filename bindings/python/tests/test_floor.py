@@ -1,9 +1,13 @@
 import concurrent.futures
 import copy
+import dis
 import gc
+import itertools
 import multiprocessing
 import os
+import pathlib
 import pickle
+import re
 import subprocess
 import sys
 import threading
@@ -174,6 +178,75 @@ def test_a_lane_that_is_dropped_is_handed_back():
         assert floor.close().holders.tolist() == [7]
 
 
+@pytest.mark.filterwarnings("ignore::pytest.PytestUnraisableExceptionWarning")
+def test_no_step_at_which_ctrl_c_loses_a_lane():
+    """A call that makes a lane, and the end of that lane, are interrupted wherever Python looks for Ctrl-C."""
+    with renamer.Floor(quota=5) as floor:
+        for way in (lambda: floor.lane(2), lambda: floor.lane(2).hand_back()):
+            for at in itertools.count():
+                if interrupted(way, at) <= at:
+                    break
+                assert floor.lane().quota == 5
+            assert at > 10
+        assert len(floor.close().holders) == 0
+    first = renamer.Taker()
+    steps = [interrupted(first.split, at) for at in range(50)]
+    assert max(steps) > 10 and first.take() == 0
+
+
+def interrupted(call, at):
+    """Interrupts a call as Ctrl-C does, as a function begins or after a call, and returns how many such places it came
+    to."""
+    places, after_call = 0, set()
+
+    def trace(frame, event, _):
+        nonlocal places
+        frame.f_trace_opcodes = True
+        if event == "call" or event == "opcode" and id(frame) in after_call:
+            after_call.discard(id(frame))
+            places += 1
+            if places > at:
+                raise KeyboardInterrupt
+        if event == "opcode" and dis.opname[frame.f_code.co_code[frame.f_lasti]].startswith("CALL"):
+            after_call.add(id(frame))
+        return trace
+
+    sys.settrace(trace)
+    try:
+        call()
+    except KeyboardInterrupt:
+        pass
+    finally:
+        sys.settrace(None)
+    return places
+
+
+def test_small_lanes_of_the_page_serve_all_clients():
+    """Of lanes with an equal share each a quarter of the clients here found none."""
+    page = pathlib.Path(__file__).resolve().parents[1].joinpath("README.md").read_text()
+    recipe = re.search(r"^>>> import threading\n(?:(?:>>>|\.\.\.).*\n)+", page, re.M)[0]
+    made = {"renamer": renamer}
+    exec(re.sub(r"^(>>>|\.\.\.) ?", "", recipe, flags=re.M), made)
+    with concurrent.futures.ThreadPoolExecutor(16) as pool:
+        names = list(pool.map(made["name"], range(20_000)))
+    assert tight(names, 20_000)
+    holders = made["floor"].close().holders
+    assert holders[names].tolist() == list(range(20_000))
+
+
+def test_what_is_shown_of_floors_and_lanes():
+    with renamer.Floor("periodic", 4, 10) as floor, floor.lane(3) as lane:
+        assert repr(floor) == "<renamer.Floor periodic 4, quota 7 left>"
+        lane.name(5)
+        assert repr(lane) == "<renamer.Lane periodic 4, quota 2 left>"
+        with lane._lock:
+            assert repr(lane) == "<renamer.Lane periodic 4, in use>"
+        lane.hand_back()
+        assert repr(lane) == "<renamer.Lane periodic 4, freed>"
+        floor.close()
+        assert repr(floor) == "<renamer.Floor periodic 4, freed>"
+
+
 def test_a_lane_has_one_owner():
     lane = renamer.Floor(quota=1).lane()
     for way in (copy.copy, copy.deepcopy, pickle.dumps):
@@ -219,12 +292,15 @@ def test_arrays_are_not_copied():
     asked = np.zeros(3, CLIENT)
     asked["client"] = [5, 6, 7]
     with renamer.Floor(quota=3) as floor, floor.lane() as lane:
-        for wrong in (asked[::2], np.zeros(3, np.uint64), asked.reshape(3, 1)):
+        hidden = np.ma.array(asked, mask=True)
+        for wrong in (asked[::2], np.zeros(3, np.uint64), asked.reshape(3, 1), [1], None, hidden):
             with pytest.raises(TypeError):
                 lane.grant_many(wrong)
         assert sorted(lane.grant_many(asked)["client"]) == [5, 6, 7]
     array = np.arange(4, dtype=np.uint64)
     assert as_clients(array) is array
+    unaligned = np.frombuffer(b"." + array.tobytes(), np.uint8)[1:].view(np.uint64)
+    assert as_clients(unaligned).flags.aligned and as_clients(unaligned).tolist() == [0, 1, 2, 3]
     with renamer.Floor(quota=9) as floor, floor.lane() as lane:
         assert [lane.name(client) for client in range(3)] == [0, 1, 2]
         assert lane.name_many([]).tolist() == []

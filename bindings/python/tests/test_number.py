@@ -1,5 +1,6 @@
 import os
 import pickle
+import re
 import subprocess
 import sys
 
@@ -34,6 +35,15 @@ def test_identities_that_differ_stay_apart():
     for clients in ([2**63, 0, 2**63 + 1], [b"a", b"a\0"], [2**53, 2**53 + 1], [2**70, -1], ["a", "a\0"]):
         assert sorted(renamer.number(clients, share=True)) == list(range(len(clients)))
         assert renamer.number(clients).tolist() == list(range(len(clients)))
+
+
+def test_values_in_the_order_of_their_names():
+    names, values = renamer.number(["b", "a", "b"], share=True, return_values=True)
+    assert names.tolist() == [1, 0, 1] and values.tolist() == ["a", "b"]
+    clients = np.array([9, 2, 5], np.uint16)
+    names, values = renamer.number(clients, return_values=True)
+    assert names.tolist() == [0, 1, 2] and values.tolist() == [9, 2, 5]
+    assert values.dtype == np.uint16 and not np.shares_memory(values, clients)
 
 
 def test_what_is_no_row_of_one_kind_is_refused():
@@ -107,6 +117,17 @@ def test_a_client_of_two_epochs_has_two_names():
     assert part.names.tolist() == [0, 0] and part.epochs.tolist() == [8, 9] and part.counts.tolist() == [1, 1]
 
 
+def test_parts_of_several_types_are_put_behind_one_another():
+    """numpy makes floats of the epochs of the first two parts, and the third has none."""
+    epochs = np.array([2**53, 2**53 + 1]), np.array([2**63], np.uint64), np.array([]), np.array([2**53 + 1])
+    firsts = renamer.first_names([(some, np.ones(len(some), int)) for some in epochs])
+    assert [first.tolist() for first in firsts] == [[0, 0], [0], [], [1]]
+    dates = np.array(["2026-11-29"], "M8[D]"), np.array([]), np.array(["2026-11-29"], "M8[D]")
+    firsts = renamer.first_names([(some, np.ones(len(some), int)) for some in dates])
+    assert [first.tolist() for first in firsts] == [[0], [], [1]]
+    assert [first.tolist() for first in renamer.first_names([(np.array([]), np.array([], int))])] == [[]]
+
+
 def test_names_hang_on_no_order():
     clients = np.random.default_rng(1).permutation(10_000)
     first = renamer.name_part(clients).names
@@ -116,18 +137,23 @@ def test_names_hang_on_no_order():
 
 def test_check_finds_what_is_not_tight():
     most = 1_048_576
-    assert renamer.check([]) == 0
+    assert renamer.check([]) == renamer.check(np.array([])) == 0
     assert renamer.check(np.random.default_rng(1).permutation(most + 5)) == most + 5
     full = np.arange(most)
     largest = full.astype(np.uint64) + np.uint64(2**64 - most)
-    for names in ([0, 2], [0, 0], [1], [-1, 0], [*full[:-1], most], [*full, most - 1], [*full, most + 1], largest):
+    for names in ([0, 2], [0, 0], [1], [*full[:-1], most], [*full, most - 1], [*full, most + 1], largest):
         with pytest.raises(renamer.NotTight):
             renamer.check(names)
-    with pytest.raises(renamer.NotTight, match="^flaw: DuplicateClient record 2"):
-        renamer.check([0, 1], [7, 7])
-    with pytest.raises(renamer.NotTight, match="^from name 1048576 on, counted from 0 there, flaw: Gap epoch 1 name 0"):
-        renamer.check([*full, most + 1])
-    for wrong in ([0.0], [[0]]):
+    for names, clients, said in (
+        ([0, 1, 3], None, "of 3 names, which should be those from 0 on, none is 2"),
+        ([0, 1, 4, 1, 1], None, "name 1 stands twice, at the places 1 and 3"),
+        ([0, 2, 1], [7, 5, 7], "client 7 stands twice, at the places 0 and 2"),
+        ([0, -1], None, "these are not 0 to k-1: -1 is not a number from 0 to 2**64 - 1"),
+        ([2**64], None, f"these are not 0 to k-1: {2**64} is not a number from 0 to 2**64 - 1"),
+    ):
+        with pytest.raises(renamer.NotTight, match=f"^{re.escape(said)}$"):
+            renamer.check(names, clients)
+    for wrong in ([0.0], [[0]], ["a"], [True]):
         with pytest.raises(TypeError):
             renamer.check(wrong)
     with pytest.raises(ValueError, match="1 names, but 2 clients"):
@@ -141,12 +167,43 @@ def test_the_program_names_a_batch():
     for epoch in range(9):
         assert (names[epochs == epoch] == np.arange((epochs == epoch).sum())).all()
     assert renamer.run([]).tolist() == [] and renamer.run([7, 5]).tolist() == [0, 1]
-    with pytest.raises(renamer.Refusal, match="^record 3: Duplicate$"):
-        renamer.run([7, 5, 7])
     with pytest.raises(OverflowError):
         renamer.run([-1])
+    with pytest.raises(TypeError, match="^whole numbers from 0 to 2.* are wanted, and not str$"):
+        renamer.run(["a"])
     with pytest.raises(ValueError, match="2 clients, but 1 epochs"):
         renamer.run([1, 2], [1])
+
+
+def test_a_batch_has_no_bound():
+    """One epoch of more than 262,144 clients, and more than 1,048,576 of them."""
+    clients = np.random.default_rng(6).permutation(1_100_000)
+    assert (renamer.run(clients) == np.arange(len(clients))).all()
+    with pytest.raises(renamer.Refusal, match="^client 17 stands twice, at the places .* and 1100000$"):
+        renamer.run([*clients.tolist(), 17])
+    with pytest.raises(renamer.Refusal, match="^client 7 stands twice, at the places 0 and 1$"):
+        renamer.run([7, 7, *clients.tolist()])
+
+
+@pytest.mark.parametrize("seed", range(20))
+def test_a_refusal_names_the_client_and_both_places(seed):
+    draw = np.random.default_rng([seed, 3])
+    clients, epochs = draw.integers(0, 60, 40), draw.integers(0, 4, 40)
+    pairs, said = list(zip(clients.tolist(), epochs.tolist())), None
+    # The first, in the order of epochs, that stands there already.
+    for at in sorted(range(40), key=lambda place: pairs[place][1]):
+        first = pairs.index(pairs[at])
+        if first != at:
+            said = "client {} stands twice in epoch {}".format(*pairs[at]) + f", at the places {first} and {at}"
+            break
+    if said is None:
+        assert len(renamer.run(clients, epochs)) == 40
+    else:
+        with pytest.raises(renamer.Refusal, match=f"^{said}$") as found:
+            renamer.run(clients, epochs)
+        assert str(pickle.loads(pickle.dumps(found.value))) == said
+    with pytest.raises(renamer.Refusal, match="^client 7 stands twice, at the places 0 and 2$"):
+        renamer.run([7, 5, 7])
 
 
 def test_a_part_is_the_same_by_library_and_program():

@@ -3,6 +3,7 @@
 import doctest
 import pathlib
 import pickle
+import pydoc
 import traceback
 import types
 import typing
@@ -32,7 +33,14 @@ def test_public_names_are_shown_as_users_call_them():
     public = [found for found in public if isinstance(found, (type, types.FunctionType))]
     assert {found.__module__ for found in public} == {"renamer"}
     assert pickle.loads(pickle.dumps(public)) == public
-    assert typing.get_type_hints(renamer.Part)["names"] == typing.get_type_hints(renamer.number)["return"]
+    hints = {found.__name__: typing.get_type_hints(found) for found in public}
+    assert hints["Part"]["names"] == hints["first_names"]["return"].__args__[0]
+    assert hints["Quiet"]["holders"] == typing.get_type_hints(renamer.Lane.name_many)["return"]
     shown = traceback.format_exception_only(renamer.Duplicate(7, 1))
     assert shown == ["renamer.Duplicate: client 7 stands twice in epoch 1\n"]
-    assert repr(renamer.Floor()).startswith("<renamer.Floor object")
+    assert {name for name in dir(renamer) if name[0] != "_"} - {"dask", "mpi"} == set(renamer.__all__)
+
+
+def test_help_begins_with_what_a_call_does():
+    shown = pydoc.plain(pydoc.render_doc(renamer.number)).splitlines()
+    assert shown[2].startswith("number(clients: ") and shown[3].startswith("    Names 0 to k-1 for the k clients")

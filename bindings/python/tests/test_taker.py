@@ -41,13 +41,19 @@ def test_refusals():
     for call in (lambda: taker.take(1), lambda: taker.take_many(5, 1)):
         with pytest.raises(renamer.NoSuchEntry):
             call()
-    with pytest.raises(OverflowError):
-        taker.take(-1)
+    for call in (lambda: taker.take(-1), lambda: taker.take_many(-1), lambda: taker.take_many(2**64)):
+        with pytest.raises(OverflowError):
+            call()
+    for count in (2**63, 2**60):
+        with pytest.raises(renamer.NoMemory):
+            taker.take_many(count)
+    assert repr(taker) == "<renamer.Taker tree 4, 0 takes begun>"
     with pytest.raises(TypeError):
         copy.copy(taker)
     assert taker.take() == 0
     taker.free()
     taker.free()
+    assert repr(taker) == "<renamer.Taker tree 4, freed>"
     for call in (taker.take, taker.split, lambda: taker.take_many(1), lambda: taker.begun):
         with pytest.raises(renamer.WasFreed):
             call()

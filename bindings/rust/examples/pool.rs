@@ -1,4 +1,4 @@
-//! A pool of slots that threads fill by name, without a lock. Four threads serve jobs, each as many as it happens to
+//! Slots that threads fill by name, each once, without a lock. Four threads serve jobs, each as many as it happens to
 //! get. A job's name is its slot in one `Vec`: no two jobs have the same slot, and the slots that are filled are the
 //! first ones.
 use renamer::{Error, Floor, Kind};

@@ -2,8 +2,8 @@
 //!
 //! A [`Floor`] is a counting network on atomic words. Each thread has a [`Lane`] of it, and names clients by that
 //! without a lock: no two clients of a floor get the same name, and each name is below the number of clients that came
-//! in. So a name is an index into a table, a pool or an array. When the
-//! threads have ended one lane takes the others in and closes the floor, and the [`Quiet`] says who has which name.
+//! in. So a name is an index into a table or an array. When the threads have ended one lane takes the others in and
+//! closes the floor, and the [`Quiet`] says who has which name.
 //!
 //! ```
 //! use renamer::{Error, Floor, Kind};

@@ -5,7 +5,6 @@ use Rattle.cn_wiring.specs.Kinds.{kind_word}
 use Rattle.cn_wiring.specs.Widths.{IsWidth}
 use Rattle.cn_nets.specs.Net.{Description}
 use Rattle.cn_cli.specs.Options.{SettingsFit, Settings}
-use Rattle.cn_cli.specs.declared.options.CheckOptions.{CheckOptions}
 use Rattle.cn_cli.specs.declared.options.Form.{Form}
 use Rattle.cn_cli.specs.declared.options.Form.TheVariants.{Report, Grants}
 
@@ -33,7 +32,8 @@ pub record NamesNetwork (options : List Row) (net : Description) : Type 0 where
   pub width : NamesWidth options net.width
 
 -- the options name these settings of a run: the network, both numbers in decimal digits, the form by
--- the word for it, and by flags that counters are carried and that the batch may be large
+-- the word for it, and by flags that counters are carried, that the batch may be large, and that the workers walk each
+-- epoch together
 pub record NamesRun (options : List Row) (settings : Settings) : Type 0 where
   pub net : NamesNetwork options settings.net
   pub workers : Gives options (codes "workers") (decimal settings.workers)
@@ -41,11 +41,11 @@ pub record NamesRun (options : List Row) (settings : Settings) : Type 0 where
   pub form : Gives options (codes "form") (form_word settings.form)
   pub carry : Flags options (codes "carry") settings.carry
   pub large : Flags options (codes "large") settings.large
+  pub together : Flags options (codes "together") settings.together
 
 -- the options name what is asked of a check: a width, and by a flag that the list may be large
-pub record NamesCheck (options : List Row) (asked : CheckOptions) : Type 0 where
-  pub width : NamesWidth options asked.width
-  pub large : Flags options (codes "large") asked.large
+abbrev pub NamesCheck : List Row → ℕ → Bool → Type 0
+NamesCheck options width large = NamesWidth options width × Flags options (codes "large") large
 
 -- the option of this name has the decimal digits of this number of 32 bits
 abbrev pub GivesNumber : List Row → Text → ℕ → Type 0
@@ -58,10 +58,6 @@ GivesNoNumber options name = (number : ℕ) → ¬ GivesNumber options name numb
 -- the options name no width of a network
 abbrev pub NamesNoWidth : List Row → Type 0
 NamesNoWidth options = (width : ℕ) → IsWidth width → ¬ NamesWidth options width
-
--- the options ask for no check by a width of a network
-abbrev pub NamesNoCheck : List Row → Type 0
-NamesNoCheck options = (asked : CheckOptions) → NamesCheck options asked → ¬ IsWidth asked.width
 
 -- the options name no network that is built
 abbrev pub NamesNoNet : List Row → Type 0

@@ -35,9 +35,12 @@ run_with_values =
     (option_with (codes "1") (codes "hand")))
     (option_with (codes "report") (codes "form"))
 
--- the same, with [--carry] [--large]
+-- the same, with [--carry] [--large] [--together]
 abbrev pub run_words : App
-run_words = with_rule (with_rule run_with_values (flag_rule (codes "carry"))) (flag_rule (codes "large"))
+run_words =
+    with_rule (with_rule (with_rule run_with_values (flag_rule (codes "carry")))
+    (flag_rule (codes "large")))
+    (flag_rule (codes "together"))
 
 -- replay --network N --width W
 abbrev pub replay_words : App

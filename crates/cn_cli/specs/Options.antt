@@ -6,7 +6,8 @@ use Rattle.cn_nets.specs.Net.{Description}
 use Rattle.cn_cli.specs.declared.options.Form.{Form}
 
 -- a network, how many workers walk it, how many tokens each has in hand at most, what is written, whether its counters
--- are carried from epoch to epoch, and whether the batch may be a large one
+-- are carried from epoch to epoch, whether the batch may be a large one, and whether the workers walk each epoch
+-- together
 pub record Settings : Type 0 where
   pub net : Description
   pub workers : ℕ
@@ -14,6 +15,7 @@ pub record Settings : Type 0 where
   pub form : Form
   pub carry : Bool
   pub large : Bool
+  pub together : Bool
 
 -- the network is built, and both numbers are within their limits
 abbrev pub SettingsFit : Settings → Type 0

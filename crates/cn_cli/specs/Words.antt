@@ -1,5 +1,5 @@
 -- What the words of a command line ask for, and what a refusal of them ends with.
-use Rattle.std.specs.Prelude.{◌≡◌, ◌≢◌, ◌⊎◌, ℕ, List, [], ◌∷◌, Option, Some, None, ⊤, codes}
+use Rattle.std.specs.Prelude.{◌≡◌, ◌≢◌, ◌⊎◌, ℕ, List, [], ◌∷◌, Option, Some, None, ⊤, codes, true, false}
 use Rattle.clap.specs.Words.{IsAmong, Kinds, Row, Text, fault_of, subcommand_of}
 use Rattle.clap.specs.declared.error.ErrorKind.{ErrorKind}
 use Rattle.clap.specs.declared.error.ErrorKind.TheVariants.{DisplayHelp, DisplayVersion, OutOfMemory}
@@ -10,7 +10,7 @@ use Rattle.cn_cli.specs.Options.{SettingsFit}
 use Rattle.cn_cli.specs.declared.choices.ChoiceFault.{ChoiceFault}
 use Rattle.cn_cli.specs.declared.choices.ChoiceFault.TheVariants as choice
 use Rattle.cn_cli.specs.declared.words.Job.{Job}
-use Rattle.cn_cli.specs.declared.words.Job.TheVariants.{Check, Replay, Run, Show}
+use Rattle.cn_cli.specs.declared.words.Job.TheVariants.{Check, CheckLarge, Replay, Run, Show}
 use Rattle.cn_cli.specs.declared.words.WordsFault.{WordsFault}
 use Rattle.cn_cli.specs.declared.words.WordsFault.TheVariants.{Help, Refused, Memory}
 
@@ -28,10 +28,16 @@ Asks (Some (name, options)) (Run settings) =
     (name ≡ codes "run") × NamesRun options settings × SettingsFit settings
 Asks (Some (name, options)) (Replay net) =
     (name ≡ codes "replay") × NamesNetwork options net × IsWidth net.width
-Asks (Some (name, options)) (Check asked) =
-    (name ≡ codes "check") × NamesCheck options asked × IsWidth asked.width
+Asks (Some (name, options)) (Check width) =
+    (name ≡ codes "check") × NamesCheck options width false × IsWidth width
 Asks (Some (name, options)) (Show net) =
     (name ≡ codes "show") × NamesNetwork options net × IsWidth net.width
+Asks (Some (name, options)) (CheckLarge width) =
+    (name ≡ codes "check") × NamesCheck options width true × IsWidth width
+
+-- a check with these options
+abbrev pub asked_check : List Row → Option (Text × List Row)
+asked_check options = Some (codes "check", options)
 
 -- it asks for no job
 abbrev pub AsksNone : Option (Text × List Row) → Type 0

@@ -6,13 +6,13 @@ ghost use Rattle.clap.specs.Words.{first_of, found_of, rows_of};
 ghost use Rattle.cn_wiring.specs.declared.kind.Kind.{Kind};
 ghost use Rattle.cn_wiring.specs.Kinds.{kind_word};
 ghost use Rattle.cn_wiring.specs.Widths.{IsWidth};
-ghost use Rattle.cn_cli.specs.Choices.{Flags, GivesNoNumber, GivesNumber, NamesCheck, NamesNetwork, NamesNoCheck};
+ghost use Rattle.cn_cli.specs.Choices.{Flags, GivesNoNumber, GivesNumber, NamesNetwork};
 ghost use Rattle.cn_cli.specs.Choices.{NamesNoNet, NamesNoRun, NamesNoWidth, NamesRun, NamesWidth, form_word};
 ghost use Rattle.cn_cli.specs.Options.{SettingsFit};
 ghost use Rattle.cn_cli.specs.declared.choices.ChoiceFault.TheVariants as choice;
 ghost use Rattle.cn_cli.specs.declared.options.Form.{Form};
 
-use crate::options::{CheckOptions, Form, OptionFault, Options};
+use crate::options::{Form, OptionFault, Options};
 use clap::ArgMatches;
 use cn_nets::{Net, NetFault, Widths};
 use cn_spec::limits::{MOST_HAND, MOST_WORKERS};
@@ -126,7 +126,7 @@ fn word_of<'a>(options: &ArgMatches<'a>, name: &str) -> &'a str {
 }
 
 /// Whether a flag stands among the options.
-fn has_flag(options: &ArgMatches<'_>, name: &str) -> bool
+pub(crate) fn has_flag(options: &ArgMatches<'_>, name: &str) -> bool
     ensures { Flags (rows_of (found_of options.now)) name.now result }
 {
     match value_of(options, name) {
@@ -168,20 +168,6 @@ pub(crate) fn chosen_width<'a>(
     } else {
         Err(ChoiceFault::Width(word_of(options, "width")))
     }
-}
-
-/// What the options ask of a check.
-pub(crate) fn chosen_check<'a>(
-    alloc: Global,
-    options: &ArgMatches<'a>,
-) -> Result<CheckOptions, ChoiceFault<'a>>
-    ensures { let given = rows_of (found_of options.now) in
-        MatchResult result (λ asked. NamesCheck given asked × IsWidth asked.width)
-        (λ fault. fault ≢ choice.Memory → NamesNoCheck given) }
-{
-    let width = chosen_width(alloc, options)?;
-    let large = has_flag(options, "large");
-    Ok(CheckOptions { width, large })
 }
 
 /// The network that the options name.
@@ -226,6 +212,14 @@ fn with_large(run: Options, large: bool) -> Options
     if large { run.enlarged() } else { run }
 }
 
+/// The run, whose workers walk each epoch together if that is asked for.
+fn with_together(run: Options, together: bool) -> Options
+    requires { run.together ≡ false }
+    ensures { result ≡ record run { together = together } }
+{
+    if together { run.walked_together() } else { run }
+}
+
 /// The options of a run.
 pub(crate) fn chosen_options<'a>(
     alloc: Global,
@@ -248,7 +242,8 @@ pub(crate) fn chosen_options<'a>(
     match Options::new(net, workers, hand, form) {
         Ok(run) => {
             let run = with_carry(run, has_flag(options, "carry"));
-            Ok(with_large(run, has_flag(options, "large")))
+            let run = with_large(run, has_flag(options, "large"));
+            Ok(with_together(run, has_flag(options, "together")))
         }
         Err(fault) => Err(refused(options, fault)),
     }

@@ -104,12 +104,15 @@ fn run_command<'a>(alloc: Global, help: &'a HelpTexts) -> Draft<'a>
     let forms = "What is written: report (exits and names) or grants (CSV for check)";
     let carry = "Keep the counters of the network from epoch to epoch";
     let large = "Take a large batch, as far as memory goes: --help has the limits";
+    let together =
+        "All workers walk each epoch at once, on one network: to test and measure threads";
     let command = network_command(alloc, "run", brief::RUN, &help.run, help);
     let command = with_option(command, alloc, "workers", "K", Some("1"), &help.workers);
     let command = with_option(command, alloc, "hand", "H", Some("1"), &help.hand);
     let command = with_option(command, alloc, "form", "F", Some("report"), forms);
     let command = with_flag(command, alloc, "carry", carry);
-    with_flag(command, alloc, "large", large)
+    let command = with_flag(command, alloc, "large", large);
+    with_flag(command, alloc, "together", together)
 }
 
 /// The subcommand `check`.

@@ -5,12 +5,15 @@ use std::alloc::{AllocError, Global};
 /// What clap says of a word that nothing takes begins so. After it come the word and a quote.
 const UNEXPECTED: &str = "error: unexpected argument '";
 
+/// What clap says of a word that is no job begins so, and goes on likewise.
+const UNRECOGNIZED: &str = "error: unrecognized subcommand '";
+
 /// What clap says if options are missing begins so.
 const MISSING: &str = "error: the following required arguments were not provided:";
 
-/// The word that clap did not expect, by its text.
-fn unexpected_in(text: &str) -> Option<&str> {
-    let (word, _) = text.strip_prefix(UNEXPECTED)?.split_once('\'')?;
+/// The word that clap's text names after this beginning.
+fn named_after<'a>(text: &'a str, beginning: &str) -> Option<&'a str> {
+    let (word, _) = text.strip_prefix(beginning)?.split_once('\'')?;
     Some(word)
 }
 
@@ -25,13 +28,29 @@ fn call_of(job: &str) -> Option<&'static str> {
     }
 }
 
+/// What is to be written in place of an option that this job does not have, if that is known.
+fn option_meant(job: &str, word: &str) -> Option<&'static str> {
+    match (job, word) {
+        (_, "-v" | "-V" | "--version") => Some("For the version: renamer --version"),
+        (_, "-n") => Some("-n is written --network"),
+        (_, "-w") => Some("-w is written --width"),
+        (_, "-o") => Some("What is printed goes to standard output: renamer .. > FILE"),
+        ("run", "-j") => Some("-j is written --workers"),
+        ("run", "--threads") => Some("--threads is written --workers"),
+        ("run", "-d" | "--column") => {
+            Some("For a column of a CSV file: renamer-number --column NAME FILE")
+        }
+        _ => None,
+    }
+}
+
 /// What may be meant by a word that clap did not expect after a job.
 fn meant_by(alloc: Global, job: &str, word: &str) -> Result<Option<String>, AllocError> {
+    if let Some(hint) = option_meant(job, word) {
+        return Ok(Some(String::from_str(alloc, hint)?));
+    }
     let hint = match word {
         "help" => format!(in alloc; "For the help of {job}: renamer help {job}")?,
-        "-v" | "-V" | "--version" => String::from_str(alloc, "For the version: renamer --version")?,
-        "-n" => String::from_str(alloc, "-n is written --network")?,
-        "-w" => String::from_str(alloc, "-w is written --width")?,
         // Nothing is read for a wiring.
         _ if job == "show" => return Ok(None),
         "-" => String::from_str(alloc, "renamer reads standard input anyway: leave - out")?,
@@ -41,14 +60,28 @@ fn meant_by(alloc: Global, job: &str, word: &str) -> Result<Option<String>, Allo
     Ok(Some(hint))
 }
 
+/// What may be meant by a word that is no job.
+fn job_meant(word: &str) -> Option<&'static str> {
+    match word {
+        "version" => Some("For the version: renamer --version"),
+        "completions" => Some("Completions of bash, zsh and fish are below share, beside bin"),
+        _ => None,
+    }
+}
+
 /// What a refusal of this job may say beside clap's text.
 fn hint_of(alloc: Global, job: &str, text: &str) -> Result<Option<String>, AllocError> {
-    match (unexpected_in(text), call_of(job)) {
-        (Some(word), _) => meant_by(alloc, job, word),
-        (None, Some(call)) if text.starts_with(MISSING) => {
-            Ok(Some(String::from_str(alloc, call)?))
-        }
-        _ => Ok(None),
+    if let Some(word) = named_after(text, UNEXPECTED) {
+        return meant_by(alloc, job, word);
+    }
+    let hint = if text.starts_with(MISSING) {
+        call_of(job)
+    } else {
+        named_after(text, UNRECOGNIZED).and_then(job_meant)
+    };
+    match hint {
+        Some(hint) => Ok(Some(String::from_str(alloc, hint)?)),
+        None => Ok(None),
     }
 }
 

@@ -10,5 +10,5 @@ mod hint;
 mod options;
 mod words;
 
-pub use options::{CheckOptions, Form, OptionFault, Options};
+pub use options::{Form, OptionFault, Options};
 pub use words::{Job, WordsFault, parse_words};

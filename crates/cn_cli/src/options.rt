@@ -1,4 +1,4 @@
-//! What a run is asked for beside its batch, and a check beside its list.
+//! What a run is asked for beside its batch.
 
 ghost use Rattle.std.specs.Prelude.{◌≡◌, ◌↔◌, IfOk, IsErrOf, false, true};
 ghost use Rattle.cn_cli.specs.Choices.{form_word};
@@ -33,8 +33,8 @@ impl Form {
 
 /// What a run is asked for beside its batch: a network, how many workers share out the clients, how
 /// many tokens each of them has in hand at most, what is written, whether the network's counters are
-/// carried from epoch to epoch, and whether the batch may be a large one. To contracts it is these six, and both
-/// numbers are within their limits.
+/// carried from epoch to epoch, whether the batch may be a large one, and whether the workers walk each epoch together.
+/// To contracts it is these seven, and both numbers are within their limits.
 #[derive(Clone, Copy, Debug, PartialEq, Eq)]
 pub struct Options {
     net: Net,
@@ -43,6 +43,7 @@ pub struct Options {
     form: Form,
     carry: bool,
     large: bool,
+    together: bool,
 }
 
 impl Model for Options {
@@ -57,6 +58,7 @@ impl Model for Options {
       form = options.form;
       carry = options.carry;
       large = options.large;
+      together = options.together;
     } };
 
     ghost invariant = { λ options. SettingsFit (record {
@@ -66,6 +68,7 @@ impl Model for Options {
       form = options.form;
       carry = options.carry;
       large = options.large;
+      together = options.together;
     }) };
 
     ghost inverse = { λ settings. record {
@@ -75,16 +78,8 @@ impl Model for Options {
       form = settings.form;
       carry = settings.carry;
       large = settings.large;
+      together = settings.together;
     } };
-}
-
-/// What a check is asked for beside its list.
-#[derive(Clone, Copy, Debug, PartialEq, Eq)]
-pub struct CheckOptions {
-    /// The width by which names are counted.
-    pub width: u32,
-    /// Whether the list may be a large one.
-    pub large: bool,
 }
 
 /// Why no run is asked for so.
@@ -109,14 +104,22 @@ impl OptionFault {
 
 impl Options {
     /// A run on this network, by so many workers with so many tokens in hand each, which writes this
-    /// form. It carries no counters, and its batch is not a large one.
+    /// form. It carries no counters, its batch is not a large one, and one worker walks each epoch.
     ///
     /// # Errors
     /// `OptionFault::Workers` if `workers` is not from 1 to [`MOST_WORKERS`]; else `OptionFault::Hand` if `hand` is not
     /// from 1 to [`MOST_HAND`].
     pub fn new(net: Net, workers: u32, hand: u32, form: Form) -> Result<Options, OptionFault>
         ensures ok { IfOk result (λ options. options
-            ≡ record { net = net; workers = workers; hand = hand; form = form; carry = false; large = false }) }
+            ≡ record {
+              net = net;
+              workers = workers;
+              hand = hand;
+              form = form;
+              carry = false;
+              large = false;
+              together = false;
+            }) }
         ensures workers { IsErrOf result OptionFault.Workers ↔ (¬ WorkersFit workers) }
         ensures hand { IsErrOf result OptionFault.Hand ↔ (WorkersFit workers × (¬ HandFits hand)) }
     {
@@ -134,6 +137,7 @@ impl Options {
                 form,
                 carry: false,
                 large: false,
+                together: false,
             })
         }
     }
@@ -201,5 +205,22 @@ impl Options {
         ensures { result ≡ self.now.large }
     {
         self.large
+    }
+
+    /// The same run, whose workers walk each epoch together, on one network.
+    pub fn walked_together(self) -> Options
+        ensures { result ≡ record self { together = true } }
+    {
+        Options {
+            together: true,
+            ..self
+        }
+    }
+
+    /// Whether the workers walk each epoch together. If they do not, one worker walks each epoch.
+    pub fn walks_together(&self) -> bool
+        ensures { result ≡ self.now.together }
+    {
+        self.together
     }
 }

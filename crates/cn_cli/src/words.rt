@@ -1,17 +1,17 @@
 //! The words of a command line, and the job that they ask for.
 
 ghost use Rattle.std.specs.Prelude.{◌≡◌, ◌≢◌, IfErr, IfOk, MatchResult, map, string_bytes};
-ghost use Rattle.clap.specs.Words.{kind_of, subcommand_rows_of};
-ghost use Rattle.cn_cli.specs.Words.{Asks, AsksNone, IsFaultBy, IsFaultOf, IsJobOf, IsRefusalBy};
+ghost use Rattle.clap.specs.Words.{found_of, kind_of, rows_of, subcommand_rows_of};
+ghost use Rattle.cn_cli.specs.Words.{Asks, AsksNone, IsFaultBy, IsFaultOf, IsJobOf, IsRefusalBy, asked_check};
 ghost use Rattle.cn_cli.specs.Words.{IsRefusalOf, status_of_words};
 ghost use Rattle.cn_cli.specs.declared.choices.ChoiceFault.TheVariants as choice;
 ghost use Rattle.cn_cli.specs.declared.words.WordsFault.TheVariants.{Memory};
 
-use crate::choices::{ChoiceFault, chosen_check, chosen_net, chosen_options};
+use crate::choices::{ChoiceFault, chosen_net, chosen_options, chosen_width, has_flag};
 use crate::command_line::command;
 use crate::help::HelpTexts;
 use crate::hint::with_hint;
-use crate::options::{CheckOptions, Options};
+use crate::options::Options;
 use clap::error::ErrorKind;
 use clap::{ArgMatches, Command};
 use cn_nets::Net;
@@ -25,11 +25,12 @@ pub enum Job {
     Run(Options),
     /// Read a schedule, and write what a core of this network answers.
     Replay(Net),
-    /// Read a grant list, and if it is tight write how many names of each epoch fall to each exit of the width that is
-    /// asked for.
-    Check(CheckOptions),
+    /// Read a grant list, and if it is tight write how many names of each epoch fall to each exit of this width.
+    Check(u32),
     /// Write where each wire of this network ends.
     Show(Net),
+    /// Read a grant list that may be a large one, and write of it what a check does, by this width.
+    CheckLarge(u32),
 }
 
 /// Why the words ask for no job. Each is shown by its text.
@@ -96,6 +97,19 @@ impl WordsFault {
     }
 }
 
+/// The check that the options ask for.
+fn chosen_check<'a>(alloc: Global, options: &ArgMatches<'a>) -> Result<Job, ChoiceFault<'a>>
+    ensures { let asked = asked_check (rows_of (found_of options.now)) in
+        MatchResult result (Asks asked) (λ fault. fault ≢ choice.Memory → AsksNone asked) }
+{
+    let width = chosen_width(alloc, options)?;
+    if has_flag(options, "large") {
+        Ok(Job::CheckLarge(width))
+    } else {
+        Ok(Job::Check(width))
+    }
+}
+
 /// The job that a subcommand with its options asks for.
 fn chosen_job<'a>(alloc: Global, matches: &ArgMatches<'a>) -> Result<Job, ChoiceFault<'a>>
     ensures { let asked = subcommand_rows_of matches.now in
@@ -107,7 +121,7 @@ fn chosen_job<'a>(alloc: Global, matches: &ArgMatches<'a>) -> Result<Job, Choice
     match name {
         "run" => chosen_options(alloc, options).map(Job::Run),
         "replay" => chosen_net(alloc, options).map(Job::Replay),
-        "check" => chosen_check(alloc, options).map(Job::Check),
+        "check" => chosen_check(alloc, options),
         "show" => chosen_net(alloc, options).map(Job::Show),
         _ => Err(ChoiceFault::Subcommand),
     }

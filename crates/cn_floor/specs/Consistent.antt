@@ -20,8 +20,8 @@ abbrev pub client_of : Event → ℕ
 client_of (Enter client entry) = client
 client_of (Step client wire) = client
 
--- In real-time order, as a linearizable counter gives its names (Herlihy, Wing, TOPLAS 1990): if a client has left with a
--- name, and only then the first thing happens of another, then the other is granted a greater name.
+-- In real-time order, as a linearizable counter gives its names (Herlihy, Wing, TOPLAS 1990): if a client has left with
+-- a name, and only then the first thing happens of another, then the other is granted a greater name.
 abbrev pub KeepsRealTimeOrder : Table → Ledger → Type 0
 KeepsRealTimeOrder t begin =
     (before after : List Event) (left later : Ledger) (first exit visit name second other turn greater : ℕ)

@@ -1,5 +1,5 @@
-//! The laws of histories on counting networks. Each function does nothing: its contract is the law, and a caller opens it
-//! by a call.
+//! The laws of histories on counting networks. Each function does nothing: its contract is the law, and a caller opens
+//! it by a call.
 
 ghost use Rattle.std.specs.Prelude.{◌≤◌};
 ghost use Rattle.cn_wiring.specs.Network.{IsNetwork, Network};

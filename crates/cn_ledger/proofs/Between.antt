@@ -34,21 +34,23 @@ module _ (t : Table) (old new : Ledger) (was : IsTight t old) (is : IsTight t ne
         (omega (arith, own, had d, has d, kept d (name % t.width) (name / t.width) name))) in
         let same : ◌≡◌ {A = ℕ} (when (eqb e c) 1) (when (eqb d c) 1) = ap {B = ℕ} (λ (k : ℕ). when (eqb k c) 1) held in
         omega (arith, grew, x, y, had c, has c, same)
-    )
+        )
   ]
 
   pub between : all_entered t old ≤ all_entered t new → GrantsBetween t old new
   between more = record {
     kept = kept;
     each = λ name high low.
-        let (c, has) = is.held name low in
-        (c, λ d.
-        let none : old.granted d (name % t.width) (name / t.width) name ≡ 0 =
-        elim (cases_lt 0 (old.granted d (name % t.width) (name / t.width) name)) [
-          | inl l ↦ absurd (let k = (was.only d (name % t.width) (name / t.width) name l).0 in omega arith)
-          | inr l ↦ omega arith
-        ] in
-        omega (arith, none, has d));
+        let (c, has) = is.held name low in (
+          c,
+          λ d.
+              let none : old.granted d (name % t.width) (name / t.width) name ≡ 0 =
+              elim (cases_lt 0 (old.granted d (name % t.width) (name / t.width) name)) [
+                | inl l ↦ absurd (let k = (was.only d (name % t.width) (name / t.width) name l).0 in omega arith)
+                | inr l ↦ omega arith
+              ] in
+              omega (arith, none, has d),
+        );
     only = λ c i v name grew. (
       elim (cases_lt name (all_entered t old)) [
         | inl l ↦ absurd (omega (arith, grew, early c i v name l more))

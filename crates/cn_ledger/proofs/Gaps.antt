@@ -49,7 +49,7 @@ next-share m w i h at =
       | inl l ↦ absurd (
           let step : share m w i + 1 ≤ q = omega (arith, l) in
           omega (arith, least m w i (share m w i) h (omega arith), is, mul-le-mul_left w step, spread w (share m w i), h)
-      )
+          )
       | inr l ↦ l
     ] in
     (omega (arith, most, all), omega (arith, more, some))
@@ -65,7 +65,7 @@ same-share m w i h other =
           let is : name_of w i (share m w i) ≡ m =
           omega (arith, (name-below (suc m) w i (share m w i) h).0 l, least m w i (share m w i) h (omega arith)) in
           other (ap (λ (n : ℕ). n % w) (sym is) ∙ (exit_of-name_of w i (share m w i) h).0)
-      )
+          )
     ]
 
 module _ (t : Table) (w : IsWellFormed t) (l : Ledger) (sound : IsSound t l) where
@@ -74,7 +74,8 @@ module _ (t : Table) (w : IsWellFormed t) (l : Ledger) (sound : IsSound t l) whe
       ≡ sum_below t.width (λ i. share m t.width i - l.count (Exit i))
   unfolding sum_below
   missing-below zero = sym (sum-below-same t.width (λ i. share 0 t.width i - l.count (Exit i)) (λ _. 0)
-      (λ i h. let none : share 0 t.width i ≤ 0 = fewest 0 t.width i 0 h (omega arith) in omega arith) ∙ sum-below-zero t.width (λ _. 0) (λ _. refl))
+      (λ i h. let none : share 0 t.width i ≤ 0 = fewest 0 t.width i 0 h (omega arith) in omega arith)
+      ∙ sum-below-zero t.width (λ _. 0) (λ _. refl))
   missing-below (suc m) =
       let at : ℕ = m % t.width in
       let q : ℕ = m / t.width in
@@ -140,7 +141,7 @@ module _ (t : Table) (w : IsWellFormed t) (l : Ledger) (sound : IsSound t l) whe
             k,
             spread t.width (share m t.width j),
           )
-      )
+          )
     ]
 
     pub smooth : IsSmooth (all_inside t l + 1) t l

@@ -1,5 +1,6 @@
 -- What a run has written, by what was asked of it.
-use Rattle.std.proofs.Common.{◌≡◌, ℕ, inl, inr, List, Option}
+use Rattle.std.proofs.Common.{◌≡◌, ℕ, ap, inl, inr, List, Bool, Option, Some, None}
+use Rattle.std.specs.Prelude.{is_some}
 use Rattle.std.proofs.lemmas.Bool.{cases_eq}
 use Rattle.cn_report.proofs.CallerLemmas.{known-map}
 use Rattle.cn_report.specs.Writing.Written.{HasWritten, Written}
@@ -7,24 +8,35 @@ use Rattle.cn_cli.specs.Options.{Settings}
 use Rattle.cn_cli.specs.declared.words.Job.TheVariants as job
 use Rattle.cn_renamer.specs.Headline.{IsRunInOrder, IsRunInOrderOfKnown, IsRunOf, IsRunOfKnown}
 use Rattle.cn_renamer.specs.Performing.{IsTextOf}
+use Rattle.cn_renamer.specs.Running.{walkers, walkers_asked, walkers_by}
 use Rattle.cn_renamer.proofs.Headline.{written-as}
 
--- with one client in hand it is the text of a run in order, and else that of a run
+-- a gate makes all workers walk each epoch, and without one one does
+pub walkers-as-asked : {G : Type 0} (gate : Option G) (options : Settings) → is_some gate ≡ options.together
+    → walkers gate options.workers ≡ walkers_asked options
+walkers-as-asked (Some gate) options same = ap (λ (together : Bool). walkers_by together options.workers) same
+walkers-as-asked None options same = ap (λ (together : Bool). walkers_by together options.workers) same
+
+-- by one worker with one client in hand it is the text of a run in order, and else that of a run
 pub run-as-asked : {W : Type 0} (contents : W → Option (List ℕ)) (old new : W) (options : Settings) (known : Option (List ℕ))
     (written : Written)
     → HasWritten contents (IsRunOfKnown options.net options.form options.carry options.large known) written old new
-    → (options.hand ≡ 1 → HasWritten contents (IsRunInOrderOfKnown options.net options.form options.carry options.large known) written old
-    new)
+    → (walkers_asked options ≡ 1 → options.hand ≡ 1
+    → HasWritten contents (IsRunInOrderOfKnown options.net options.form options.carry options.large known) written old new)
     → HasWritten contents (IsTextOf (job.Run options) known) written old new
 run-as-asked contents old new options known written ran ordered =
     let Run : List ℕ → Type 0 = IsRunOfKnown options.net options.form options.carry options.large known in
     let Ordered : List ℕ → Type 0 = IsRunInOrderOfKnown options.net options.form options.carry options.large known in
     let Asked : List ℕ → Type 0 = IsTextOf (job.Run options) known in
-    elim (cases_eq options.hand 1) [
-      | inr other ↦ written-as contents old new Run Asked (λ text is. (is, λ hand. absurd (other hand))) written ran
-      | inl hand ↦
-          written-as contents old new Ordered Asked (λ text is.
-          let run = known-map known (λ bytes. IsRunInOrder options.net options.form options.carry options.large bytes text)
-          (λ bytes. IsRunOf options.net options.form options.carry options.large bytes text) is (λ bytes it. it.run) in
-          (run, λ _. is)) written (ordered hand)
+    elim (cases_eq (walkers_asked options) 1) [
+      | inr several ↦ written-as contents old new Run Asked (λ text is. (is, λ one _. absurd (several one))) written ran
+      | inl one ↦
+          elim (cases_eq options.hand 1) [
+            | inr other ↦ written-as contents old new Run Asked (λ text is. (is, λ _ hand. absurd (other hand))) written ran
+            | inl hand ↦
+                written-as contents old new Ordered Asked (λ text is.
+                let run = known-map known (λ bytes. IsRunInOrder options.net options.form options.carry options.large bytes text)
+                (λ bytes. IsRunOf options.net options.form options.carry options.large bytes text) is (λ bytes it. it.run) in
+                (run, λ _ _. is)) written (ordered one hand)
+          ]
     ]

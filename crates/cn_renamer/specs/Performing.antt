@@ -1,5 +1,5 @@
 -- What the program writes, and what it ends with.
-use Rattle.std.specs.Prelude.{ℕ, ◌≡◌, List, MatchResult, IfErr, Option, Result, Ok, Err, string_bytes}
+use Rattle.std.specs.Prelude.{ℕ, ◌≡◌, List, MatchResult, IfErr, Option, Result, Ok, Err, string_bytes, true, false}
 use Rattle.clap.specs.Words.{Text}
 use Rattle.cn_wiring.specs.Widths.{IsWidth}
 use Rattle.cn_report.specs.Writing.Written.{HasWritten, Written, Nothing, written_by}
@@ -15,23 +15,28 @@ use Rattle.cn_renamer.specs.Check.{IsCheckFault, IsCheckOfKnown, status_of_check
 use Rattle.cn_renamer.specs.Outputs.{until_output}
 use Rattle.cn_renamer.specs.Replay.{IsReplayFault, IsReplayOfKnown, status_of_replay, until_replay}
 use Rattle.cn_renamer.specs.Headline.{IsRunInOrderOfKnown, IsRunOfKnown}
+use Rattle.cn_renamer.specs.Running.{walkers_asked}
 use Rattle.cn_renamer.specs.Serve.{IsServeFault, status_of_serve, until_serve}
 use Rattle.cn_renamer.specs.Show.{IsWiringOf}
 
 -- the width of a check is one of which networks are built; the other jobs have a network that is built
 abbrev pub IsBuiltFor : Job → Type 0
-IsBuiltFor (job.Check asked) = IsWidth asked.width
+IsBuiltFor (job.Check width) = IsWidth width
+IsBuiltFor (job.CheckLarge width) = IsWidth width
 IsBuiltFor other = Unit {0}
 
 -- the text of a job, by the bytes that its reader has left, if they are known; of a run with one client in hand the
--- names follow the order of the batch, by any number of workers
+-- names follow the order of the batch if one worker walks each epoch, as it does unless several workers are asked for
+-- who are to walk it together
 abbrev pub IsTextOf : Job → Option (List ℕ) → List ℕ → Type 0
 IsTextOf (job.Run options) known text =
     IsRunOfKnown options.net options.form options.carry options.large known text
-    × (options.hand ≡ 1 → IsRunInOrderOfKnown options.net options.form options.carry options.large known text)
+    × (walkers_asked options ≡ 1 → options.hand ≡ 1
+    → IsRunInOrderOfKnown options.net options.form options.carry options.large known text)
 IsTextOf (job.Replay net) known text = IsReplayOfKnown net known text
-IsTextOf (job.Check asked) known text = IsCheckOfKnown asked.width asked.large known text
+IsTextOf (job.Check width) known text = IsCheckOfKnown width false known text
 IsTextOf (job.Show net) known text = IsWiringOf net text
+IsTextOf (job.CheckLarge width) known text = IsCheckOfKnown width true known text
 
 -- how much of its text a job has written that met a fault
 abbrev pub until_fault : Fault → Written
@@ -54,10 +59,12 @@ MayEnd (job.Run options) known (Serve fault) = IsServeFault options.net options.
 MayEnd (job.Run options) known other = IsOfRuntime other
 MayEnd (job.Replay net) known (Replay fault) = IsReplayFault known fault
 MayEnd (job.Replay net) known other = IsOfRuntime other
-MayEnd (job.Check asked) known (Check fault) = IsCheckFault asked.large known fault
-MayEnd (job.Check asked) known other = ⊥
+MayEnd (job.Check width) known (Check fault) = IsCheckFault false known fault
+MayEnd (job.Check width) known other = ⊥
 MayEnd (job.Show net) known (Output fault) = Unit {0}
 MayEnd (job.Show net) known other = ⊥
+MayEnd (job.CheckLarge width) known (Check fault) = IsCheckFault true known fault
+MayEnd (job.CheckLarge width) known other = ⊥
 
 -- the text that answers words, by what is read of them
 abbrev pub IsTextAsked : Result Job WordsFault → Option (List ℕ) → List ℕ → Type 0

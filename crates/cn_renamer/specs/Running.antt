@@ -1,5 +1,5 @@
 -- Which epochs may be run, and by whom.
-use Rattle.std.specs.Prelude.{◌≡◌, ℕ, ◌<◌, ◌≤◌, ◌*◌, ◌/◌, All, List, Option, Some, None, length, max, min, true}
+use Rattle.std.specs.Prelude.{◌≡◌, ℕ, ◌<◌, ◌≤◌, ◌*◌, ◌/◌, All, Bool, List, Option, Some, None, length, max, min, true, false}
 use Rattle.cn_spec.specs.declared.limits.TheConstants.{MOST_NAMED}
 use Rattle.cn_report.specs.Reading.Batch.{MayCome, clients_of_epochs}
 use Rattle.cn_report.specs.Reading.Bounds.{bounds_of}
@@ -20,6 +20,15 @@ pub record MayRunAll (entries : ℕ) (epochs : List BatchEpoch) (places : ℕ) :
 abbrev pub walkers : {G : Type 0} → Option G → ℕ → ℕ
 walkers (Some gate) asked = asked
 walkers None asked = 1
+
+-- how many walk each epoch of a run, if so many workers are asked for: all of them together, or else one
+abbrev pub walkers_by : Bool → ℕ → ℕ
+walkers_by true asked = asked
+walkers_by false asked = 1
+
+-- how many walk each epoch of a run that is asked for so
+abbrev pub walkers_asked : Settings → ℕ
+walkers_asked options = walkers_by options.together options.workers
 
 -- those who walk each epoch, by the options
 abbrev pub crew_of : {G : Type 0} → Option G → Settings → Crew

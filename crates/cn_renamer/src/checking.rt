@@ -1,6 +1,6 @@
 //! A list of grants, checked.
 
-ghost use Rattle.std.specs.Prelude.{◌≡◌, IfErr, Some};
+ghost use Rattle.std.specs.Prelude.{◌≡◌, IfErr, Some, false};
 ghost use Rattle.cn_wiring.specs.Widths.{IsWidth};
 ghost use Rattle.cn_report.specs.Writing.Written.{HasWritten, written_by};
 ghost use Rattle.cn_renamer.specs.Check.{IsCheckFault, IsCheckOfKnown, IsTightTextOf, fault_of_flaw, fault_of_output, status_of_check, until_check};
@@ -108,6 +108,26 @@ fn write_epochs<W: Write>(
     Ok(())
 }
 
+/// Reads a list of grants that is not a large one, and if it is tight writes what it has, as [`check_within`] does.
+///
+/// The width is one of the widths of networks ([`cn_wiring::is_width`]).
+///
+/// # Errors
+/// Those of [`check_within`].
+pub fn check<R: Read + Drop, W: Write>(
+    alloc: Global,
+    reader: R,
+    writer: &mut W,
+    width: u32,
+) -> Result<(), CheckFault>
+    requires { IsWidth width }
+    ensures written { let Is = IsCheckOfKnown width false (R.remaining reader) in
+        HasWritten W.contents Is (written_by until_check result) writer.old writer.new }
+    ensures flawed { IfErr result (IsCheckFault false (R.remaining reader)) }
+{
+    check_within(alloc, reader, writer, width, false)
+}
+
 /// Reads a list of grants, and if it is tight writes what it has: each epoch's number and its number of clients, how
 /// many of its names are `i` modulo the width, for each `i` below it, and how many epochs and grants there are.
 ///
@@ -119,7 +139,7 @@ fn write_epochs<W: Write>(
 /// `Flaw` with the first record that has a flaw, or the first gap; `Memory` if any growth was refused; `Write` if a
 /// write or the flush at the end failed, with the number of bytes that were written: they are the first of the text. On
 /// any other fault nothing was written.
-pub fn check<R: Read + Drop, W: Write>(
+pub fn check_within<R: Read + Drop, W: Write>(
     alloc: Global,
     reader: R,
     writer: &mut W,

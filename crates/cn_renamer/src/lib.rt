@@ -12,7 +12,7 @@ mod serve_fault;
 mod serving;
 mod showing;
 
-pub use checking::{CheckFault, check};
+pub use checking::{CheckFault, check, check_within};
 // The older names of these: they stand in cn_cli and cn_nets.
 pub use cn_cli::{Form, Job, OptionFault, Options, WordsFault, parse_words};
 pub use cn_nets::{Net, NetFault};

@@ -1,17 +1,17 @@
 //! The job that the words ask for, done.
 
-ghost use Rattle.std.specs.Prelude.{◌≡◌, Err, IfErr, List, Option, map, string_bytes, ℕ};
+ghost use Rattle.std.specs.Prelude.{◌≡◌, Err, IfErr, List, Option, is_some, map, string_bytes, ℕ};
 ghost use Rattle.cn_report.specs.Writing.Written.{HasWritten, written_by};
 ghost use Rattle.cn_renamer.specs.Outputs.{until_output};
 ghost use Rattle.cn_renamer.specs.Performing.{HasRun, IsBuiltFor, IsTextAsked, IsTextOf, MayEnd, MayEndAsked, until_fault};
 
-use crate::checking::check;
+use crate::checking::{check, check_within};
 use crate::fault::Fault;
 use crate::output_fault::OutputFault;
 use crate::replaying::replay;
 use crate::serving::serve_with_receipts;
 use crate::showing::show;
-use cn_cli::{Job, WordsFault, parse_words};
+use cn_cli::{Job, Options, WordsFault, parse_words};
 use cn_floor::OpenGate;
 use cn_report::emit;
 use std::alloc::Global;
@@ -21,8 +21,20 @@ use std::random::RandomSource;
 use std::sync::Wait;
 use std::thread::Threads;
 
+/// The gate of a run: if its workers are to walk each epoch together it has one, which lets each step go.
+fn gate_of<'g>(options: &Options, gate: &'g OpenGate) -> Option<&'g OpenGate>
+    ensures { is_some result ≡ options.now.together }
+{
+    if options.walks_together() {
+        Some(gate)
+    } else {
+        None
+    }
+}
+
 /// Does a job: reads what it reads, and writes its text. Random words are asked for only by a run and a replay, and
-/// threads only by a run of more than one worker.
+/// threads only by a run of more than one worker. Of a run one worker walks each epoch, or all walk it together if the
+/// options say so.
 ///
 /// The width of a check is one that networks have ([`cn_wiring::is_width`]), as [`parse_words`] answers it.
 ///
@@ -44,7 +56,7 @@ pub fn perform<I: Read + Drop, W: Write, S: RandomSource, R: Threads + Wait + Sy
     match job {
         Job::Run(options) => {
             let state = RandomState::new(source)?;
-            let gate = None::<&OpenGate>;
+            let gate = gate_of(&options, &OpenGate);
             serve_with_receipts(rt, alloc, reader, writer, &options, state, gate)?;
             Ok(())
         }
@@ -52,7 +64,8 @@ pub fn perform<I: Read + Drop, W: Write, S: RandomSource, R: Threads + Wait + Sy
             let state = RandomState::new(source)?;
             Ok(replay(alloc, reader, writer, &net, state)?)
         }
-        Job::Check(asked) => Ok(check(alloc, reader, writer, asked.width, asked.large)?),
+        Job::Check(width) => Ok(check(alloc, reader, writer, width)?),
+        Job::CheckLarge(width) => Ok(check_within(alloc, reader, writer, width, true)?),
         Job::Show(net) => Ok(show(alloc, writer, &net)?),
     }
 }

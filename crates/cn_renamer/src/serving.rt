@@ -19,8 +19,8 @@ use crate::serve_fault::ServeFault;
 use cn_cli::{Form, Options};
 use cn_floor::{Gate, Receipts};
 use cn_report::{
-    Batch, BatchEpoch, BatchFault, Bounds, EmitFault, Pieces, read_batch_by_two, read_batch_within,
-    write_grants, write_report,
+    Batch, BatchEpoch, BatchFault, Bounds, EmitFault, Pieces, read_batch_within, write_grants,
+    write_report,
 };
 use cn_wiring::Counting;
 use std::alloc::Global;
@@ -29,12 +29,11 @@ use std::io::{Read, Write};
 use std::sync::Wait;
 use std::thread::Threads;
 
-/// Reads the batch of a run: by one thread if there is one worker, and else by two.
+/// Reads the batch of a run.
 ///
 /// # Errors
 /// Those of [`read_batch_within`].
-fn read_by_options<I: Read + Drop, R: Threads + Wait + Sync>(
-    rt: &R,
+fn read_by_options<I: Read + Drop>(
     alloc: Global,
     reader: I,
     network: &Counting,
@@ -48,11 +47,7 @@ fn read_by_options<I: Read + Drop, R: Threads + Wait + Sync>(
     ensures few { IfOk result (λ batch. clients_of_epochs batch.epochs.items ≤ MOST_NAMED) }
 {
     let bounds = Bounds::of(options.is_large(), network.entries());
-    if options.workers() < 2 {
-        read_batch_within(alloc, reader, bounds, state)
-    } else {
-        read_batch_by_two(rt, alloc, reader, bounds, state)
-    }
+    read_batch_within(alloc, reader, bounds, state)
 }
 
 /// Writes the text of epochs that were run, in the options' form.
@@ -88,7 +83,7 @@ fn write_epochs<W: Write>(
 /// ([`crate::laws::written_grants_are_accepted`]).
 ///
 /// The epochs run one after another, each as [`cn_walk::Runner::run`] does, by as many workers as the options have,
-/// each with so many clients in hand. With several workers two threads read the batch.
+/// each with so many clients in hand.
 ///
 /// **The headline.** Of each epoch of k clients exit i of w has the count ceiling((k - i) / w), and the clients have
 /// the names 0 to k-1, each once (Aspnes, Herlihy, Shavit, *Counting Networks*, JACM 1994, section 2; renaming by
@@ -136,9 +131,10 @@ pub fn serve<I: Read + Drop, W: Write, G: Gate + Sync, R: Threads + Wait + Sync>
     Ok(())
 }
 
-/// Serves a batch at a gate, as [`serve`] does, or without one, as the program does; and returns the receipts of the
-/// floors: what it has written has of each epoch the counts by exit of a closed floor on which the clients of the epoch
-/// walked, and nobody else, and the names that they were granted there.
+/// Serves a batch at a gate, as [`serve`] does, or without one, as the program does unless its workers are to walk each
+/// epoch together ([`Options::walks_together`]); and returns the receipts of the floors: what it has written has of
+/// each epoch the counts by exit of a closed floor on which the clients of the epoch walked, and nobody else, and the
+/// names that they were granted there.
 ///
 /// Without a gate each epoch is walked by one worker: several that share an epoch's words wait for one another longer
 /// than they gain. So with one client in hand names follow the order of the batch by any number of workers. Epochs that
@@ -170,7 +166,7 @@ pub fn serve_with_receipts<I: Read + Drop, W: Write, G: Gate + Sync, R: Threads 
     ensures refused { IfErr result (IsServeFault options.now.net options.now.large (I.remaining reader)) }
 {
     let network = options.net().build(alloc)?;
-    let batch = read_by_options(rt, alloc, reader, &network, options, state)?;
+    let batch = read_by_options(alloc, reader, &network, options, state)?;
     let (holders, receipts) = run_epochs(rt, alloc, &network, options, &batch.epochs, gate)?;
     let pieces = Pieces::new(alloc)?;
     write_epochs(writer, pieces, &network, options, &batch.epochs, &holders)?;

@@ -15,6 +15,6 @@ pub use callers::{
 pub use grants::{Flaw, NamedEpoch, named_grants, named_grants_within, write_grants, write_tight};
 pub use reading::{
     Batch, BatchCause, BatchEpoch, BatchFault, Bounds, ScheduleCause, ScheduleFault, read_batch,
-    read_batch_by_two, read_batch_within, read_schedule,
+    read_batch_within, read_schedule,
 };
 pub use writing::{EmitFault, OpenEpoch, Pieces, emit, write_replay, write_report, write_wiring};

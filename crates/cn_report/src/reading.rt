@@ -11,7 +11,7 @@ pub(crate) mod scatter;
 mod schedule;
 mod schedule_fault;
 
-pub use batch::{Batch, BatchEpoch, read_batch, read_batch_by_two, read_batch_within};
+pub use batch::{Batch, BatchEpoch, read_batch, read_batch_within};
 pub use batch_fault::{BatchCause, BatchFault};
 pub use bounds::Bounds;
 pub use schedule::read_schedule;

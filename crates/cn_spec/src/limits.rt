@@ -36,7 +36,7 @@ pub const MOST_DIGITS: usize = 20;
 /// The most records of one yard, live and free: two fewer than their numbers could count.
 pub const MOST_TOKENS: u32 = 4_294_967_294;
 
-/// The most clients for which a lane takes room at once.
+/// The most clients for which a call of the library has a lane take room at once.
 pub const MOST_ROOM: u64 = 1_048_576;
 
 /// The most workers of one epoch.

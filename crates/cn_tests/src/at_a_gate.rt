@@ -1,56 +1,96 @@
-//! Batches, served at a gate that lets each worker on at once.
+//! Batches served at a gate that lets each step go: rows of which one worker writes one text, and the grant lists of many
+//! workers on each network.
 
+use crate::grants::is_tight;
 use crate::grants_form;
-use crate::serving::{Asked, BITONIC_TWO, ROWS, Row, SINGLE_CLIENT, options_of};
-use crate::writers::{Broken, Narrow, Then};
-use cn_cli::Form;
+use crate::serving::{ROWS, Row, THREE_CLIENTS, options_of, text_of};
+use cn_cli::{Form, Options};
 use cn_floor::OpenGate;
-use cn_renamer::{ServeFault, serve};
-use cn_report::{BatchCause, BatchFault};
+use cn_wiring::Kind;
 use std::alloc::Global;
 use std::hash::RandomState;
-use std::io::Read;
 use std::sync::Wait;
 use std::test::Fail;
 use std::thread::Threads;
 
-/// What serving a batch ends with.
-fn serve_to<I: Read + Drop, R: Threads + Wait + Sync>(
+/// The three at the one entry that a tree has.
+const THREE_AT_ONE_ENTRY: &[u8] = b"epoch,client,entry\n\
+      1,5,0\n\
+      1,6,0\n\
+      1,7,0\n";
+
+const THREE_TIGHT: &[u8] = b"epoch 1 clients 3 counts 1 1 1 0\n\
+      tight epochs 1 grants 3\n";
+
+/// Whether the grant list of the three is tight, by so many workers on the network of width 4 of a kind.
+fn are_tight<R: Threads + Wait + Sync>(
     rt: &R,
     alloc: Global,
     state: RandomState,
-    asked: (Asked, Form),
-    batch: I,
-    writer: &mut Narrow,
-) -> Option<Result<(), ServeFault>> {
-    let options = options_of(asked.0, asked.1)?;
-    Some(serve(rt, alloc, batch, writer, &options, state, &OpenGate))
+    kind: Kind,
+    workers: u32,
+) -> Option<bool> {
+    let options = options_of((kind, 4, workers, 1), Form::Grants)?;
+    let batch = if kind == Kind::Tree {
+        THREE_AT_ONE_ENTRY
+    } else {
+        THREE_CLIENTS
+    };
+    let list = text_of(rt, alloc, state, &options, batch, &OpenGate)?;
+    Some(is_tight(alloc, list.as_slice(), THREE_TIGHT))
 }
 
-/// Whether a batch is served, this text is written of it, and the writer is flushed once.
-fn is_served<R: Threads + Wait + Sync>(
+/// The first kind and number of workers whose list is not tight.
+fn wrong_list<R: Threads + Wait + Sync>(
     rt: &R,
     alloc: Global,
     state: RandomState,
-    form: Form,
-    row: &Row,
+) -> Option<(Kind, u32)> {
+    for kind in [Kind::Bitonic, Kind::Periodic, Kind::Tree] {
+        for workers in [1, 2, 3, 8, 64] {
+            if are_tight(rt, alloc, state, kind, workers) != Some(true) {
+                return Some((kind, workers));
+            }
+        }
+    }
+    None
+}
+
+#[test]
+fn idle_workers_of_each_network(rt: HostRuntime) -> Result<(), Fail> {
+    let wrong = wrong_list(&rt, rt.alloc(), RandomState::new(&rt)?);
+    assert_eq!(rt; wrong, None);
+    Ok(())
+}
+
+/// Whether a run writes this text of a batch.
+fn is_written<R: Threads + Wait + Sync>(
+    rt: &R,
+    alloc: Global,
+    state: RandomState,
+    options: Option<Options>,
+    batch: &[u8],
+    wanted: &[u8],
 ) -> bool {
-    let (asked, batch, text) = *row;
-    let mut writer = Narrow::new(alloc, usize::MAX, Then::TakesNothing);
-    let done = serve_to(rt, alloc, state, (asked, form), batch, &mut writer);
-    matches!(done, Some(Ok(()))) && writer.flushes == 1 && writer.taken.as_slice() == text
+    let Some(options) = options else {
+        return false;
+    };
+    match text_of(rt, alloc, state, &options, batch, &OpenGate) {
+        Some(text) => text.as_slice() == wanted,
+        None => false,
+    }
 }
 
-/// The place of the first row of which another text is written.
+/// The place of the first of these rows that has another text by one worker at a gate.
 fn wrong_row<R: Threads + Wait + Sync>(
     rt: &R,
     alloc: Global,
     state: RandomState,
-    form: Form,
     rows: &[Row],
+    form: Form,
 ) -> Option<usize> {
-    for (place, row) in rows.iter().enumerate() {
-        if !is_served(rt, alloc, state, form, row) {
+    for (place, (asked, batch, wanted)) in rows.iter().enumerate() {
+        if !is_written(rt, alloc, state, options_of(*asked, form), *batch, *wanted) {
             return Some(place);
         }
     }
@@ -60,43 +100,10 @@ fn wrong_row<R: Threads + Wait + Sync>(
 #[test]
 fn rows_at_a_gate(rt: HostRuntime) -> Result<(), Fail> {
     let (alloc, state) = (rt.alloc(), RandomState::new(&rt)?);
-    let reports = wrong_row(&rt, alloc, state, Form::Report, &ROWS);
-    let grants = wrong_row(&rt, alloc, state, Form::Grants, &grants_form::ROWS);
-    assert_eq!(rt; (reports, grants), (None, None));
-    Ok(())
-}
-
-/// Whether a write that fails after ten bytes is reported so, and what was written.
-fn fails_after_ten<R: Threads + Wait + Sync>(rt: &R, alloc: Global, state: RandomState) -> bool {
-    let mut writer = Narrow::new(alloc, 10, Then::FailsOnce);
-    let asked = (BITONIC_TWO, Form::Report);
-    let done = serve_to(rt, alloc, state, asked, SINGLE_CLIENT, &mut writer);
-    matches!(done, Some(Err(ServeFault::Write { written: 10 })))
-        && writer.taken.as_slice() == b"network bi"
-}
-
-/// Whether a first read that fails is reported so, and nothing is written.
-fn fails_unread<R: Threads + Wait + Sync>(rt: &R, alloc: Global, state: RandomState) -> bool {
-    let mut writer = Narrow::new(alloc, usize::MAX, Then::TakesNothing);
-    let asked = (BITONIC_TWO, Form::Report);
-    let done = serve_to(rt, alloc, state, asked, Broken { left: b"" }, &mut writer);
-    let unread = BatchFault {
-        at: 0,
-        cause: BatchCause::Read,
-    };
-    match done {
-        Some(Err(ServeFault::Batch(fault))) => {
-            fault == unread && writer.taken.is_empty() && writer.flushes == 0
-        }
-        _ => false,
-    }
-}
-
-#[test]
-fn failing_writer_at_a_gate(rt: HostRuntime) -> Result<(), Fail> {
-    let (alloc, state) = (rt.alloc(), RandomState::new(&rt)?);
-    let written = fails_after_ten(&rt, alloc, state);
-    let unread = fails_unread(&rt, alloc, state);
-    assert_eq!(rt; (written, unread), (true, true));
+    let wrong = (
+        wrong_row(&rt, alloc, state, &ROWS, Form::Report),
+        wrong_row(&rt, alloc, state, &grants_form::ROWS, Form::Grants),
+    );
+    assert_eq!(rt; wrong, (None, None));
     Ok(())
 }

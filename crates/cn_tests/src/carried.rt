@@ -1,11 +1,9 @@
 //! Batches whose counters are carried from epoch to epoch.
 
 use crate::replaying::joined;
-use crate::serving::{Asked, FIVE_ON_ONE_ENTRY, FIVE_ON_ONE_ENTRY_SERVED, options_of};
-use crate::writers::{Narrow, Then};
+use crate::serving::{Asked, FIVE_ON_ONE_ENTRY, FIVE_ON_ONE_ENTRY_SERVED, options_of, text_of};
 use cn_cli::Form;
 use cn_floor::OpenGate;
-use cn_renamer::serve;
 use cn_wiring::Kind;
 use std::alloc::Global;
 use std::hash::RandomState;
@@ -57,11 +55,7 @@ fn carried<R: Threads + Wait + Sync>(
     batch: &[u8],
 ) -> Option<Vec<u8>> {
     let options = options_of(asked, form)?.carried();
-    let mut writer = Narrow::new(alloc, usize::MAX, Then::TakesNothing);
-    match serve(rt, alloc, batch, &mut writer, &options, state, &OpenGate) {
-        Ok(()) if writer.flushes == 1 => Some(writer.taken),
-        _ => None,
-    }
+    text_of(rt, alloc, state, &options, batch, &OpenGate)
 }
 
 /// A report in two parts.

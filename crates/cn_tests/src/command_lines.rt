@@ -43,7 +43,7 @@ fn writes<R: Threads + Wait + Sync>(
     }
 }
 
-const LINES: [(&str, &[u8], &[u8]); 6] = [
+const LINES: [(&str, &[u8], &[u8]); 8] = [
     (
         "renamer replay --network bitonic --width 4",
         ONE_CLIENT,
@@ -69,7 +69,17 @@ const LINES: [(&str, &[u8], &[u8]); 6] = [
         TWO_CLIENTS,
         HAND_OF_TWO_AS_GRANTS,
     ),
+    (
+        "renamer run --network bitonic --width 4 --hand 2 --form grants --together",
+        TWO_CLIENTS,
+        HAND_OF_TWO_AS_GRANTS,
+    ),
     ("renamer check --width 2", GRANTS, GRANTS_OF_WIDTH_TWO),
+    (
+        "renamer check --width 2 --large",
+        GRANTS,
+        GRANTS_OF_WIDTH_TWO,
+    ),
 ];
 
 /// The first line that writes something else.

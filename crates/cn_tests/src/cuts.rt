@@ -8,7 +8,7 @@ use crate::replaying::{self, joined};
 use crate::serving::{self, options_of};
 use crate::writers::{Broken, Narrow, Then};
 use crate::{checking, grants_form, showing};
-use cn_cli::{CheckOptions, Form, Job};
+use cn_cli::{Form, Job};
 use cn_nets::Net;
 use cn_renamer::{CheckFault, Fault, OutputFault, ReplayFault, ServeFault, perform};
 use cn_report::{BatchCause, BatchFault, Flaw, ScheduleCause, ScheduleFault};
@@ -114,10 +114,7 @@ fn wrong_run<R: RandomSource + Threads + Wait + Sync>(
 
 /// A check of a list that is not a large one, by this width.
 fn check_of(width: u32) -> Option<Job> {
-    Some(Job::Check(CheckOptions {
-        width,
-        large: false,
-    }))
+    Some(Job::Check(width))
 }
 
 /// The place of the first check whose text is not cut so.

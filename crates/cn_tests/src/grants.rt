@@ -24,7 +24,7 @@ fn has_text(alloc: Global, tight: &Tight, wanted: &[u8]) -> bool {
 }
 
 /// Whether a list is tight, and this is its text.
-fn is_tight(alloc: Global, list: &[u8], wanted: &[u8]) -> bool {
+pub(crate) fn is_tight(alloc: Global, list: &[u8], wanted: &[u8]) -> bool {
     match judged(alloc, list) {
         Some(Ok(tight)) => has_text(alloc, &tight, wanted),
         _ => false,

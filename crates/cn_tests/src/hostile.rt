@@ -1,6 +1,6 @@
 //! Hostile inputs and stalled workers: a batch cut at each of its bytes, reads that fail after many records, texts of
-//! as many records as may be and one more, one that two threads read, long ones that are flushed once, and workers that
-//! are held before each of their moments.
+//! as many records as may be and one more, long ones that are flushed once, and workers that are held before each of
+//! their moments.
 
 mod batch_cuts;
 mod computed;
@@ -9,4 +9,3 @@ mod limits;
 mod long_texts;
 mod runs;
 mod stalling;
-mod two_threads;

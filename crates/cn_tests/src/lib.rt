@@ -17,6 +17,8 @@ mod cuts;
 #[cfg(test)]
 mod emitting;
 #[cfg(test)]
+mod failing;
+#[cfg(test)]
 mod fault_lines;
 #[cfg(test)]
 mod grants;

@@ -8,7 +8,7 @@ use crate::job_texts::{
     ONE_CLIENT_ON_BITONIC_FOUR, ONE_CLIENT_ON_PERIODIC_TWO, ONE_CLIENT_ON_TREE_FOUR, TREE_TWO,
 };
 use crate::writers::{Narrow, Then};
-use cn_cli::{CheckOptions, Form, Job, Options};
+use cn_cli::{Form, Job, Options};
 use cn_nets::Net;
 use cn_renamer::{Fault, end, perform};
 use cn_wiring::{Kind, is_width};
@@ -50,10 +50,7 @@ fn job(asked: Asked, kind: Kind, width: u32) -> Option<Job> {
     Some(match asked {
         Asked::Run => Job::Run(Options::new(net, 1, 1, Form::Report).ok()?),
         Asked::Replay => Job::Replay(net),
-        Asked::Check => Job::Check(CheckOptions {
-            width,
-            large: false,
-        }),
+        Asked::Check => Job::Check(width),
         Asked::Show => Job::Show(net),
     })
 }
@@ -63,7 +60,7 @@ pub(crate) fn is_built(job: &Job) -> bool
     ensures { IsTrue result → IsBuiltFor job.now }
 {
     match job {
-        Job::Check(asked) => is_width(asked.width),
+        Job::Check(width) | Job::CheckLarge(width) => is_width(*width),
         Job::Run(_) | Job::Replay(_) | Job::Show(_) => true,
     }
 }
@@ -72,7 +69,7 @@ pub(crate) fn is_built(job: &Job) -> bool
 fn input_of(job: &Job) -> &'static [u8] {
     match job {
         Job::Run(_) => BATCH,
-        Job::Check(_) => GRANTS,
+        Job::Check(_) | Job::CheckLarge(_) => GRANTS,
         Job::Replay(_) | Job::Show(_) => ONE_CLIENT,
     }
 }

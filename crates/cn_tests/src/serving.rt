@@ -125,7 +125,23 @@ pub(crate) fn options_of(asked: Asked, form: Form) -> Option<Options> {
     Options::new(net, workers, hand, form).ok()
 }
 
-/// The report that serving a batch writes, if it ends well and the writer is flushed once.
+/// The text that serving a batch writes, if it ends well and the writer is flushed once.
+pub(crate) fn text_of<G: Gate + Sync, R: Threads + Wait + Sync>(
+    rt: &R,
+    alloc: Global,
+    state: RandomState,
+    options: &Options,
+    batch: &[u8],
+    gate: &G,
+) -> Option<Vec<u8>> {
+    let mut writer = Narrow::new(alloc, usize::MAX, Then::TakesNothing);
+    match serve(rt, alloc, batch, &mut writer, options, state, gate) {
+        Ok(()) if writer.flushes == 1 => Some(writer.taken),
+        _ => None,
+    }
+}
+
+/// The report that serving a batch writes, likewise.
 pub(crate) fn served<G: Gate + Sync, R: Threads + Wait + Sync>(
     rt: &R,
     alloc: Global,
@@ -135,11 +151,7 @@ pub(crate) fn served<G: Gate + Sync, R: Threads + Wait + Sync>(
     gate: &G,
 ) -> Option<Vec<u8>> {
     let options = options_of(asked, Form::Report)?;
-    let mut writer = Narrow::new(alloc, usize::MAX, Then::TakesNothing);
-    match serve(rt, alloc, batch, &mut writer, &options, state, gate) {
-        Ok(()) if writer.flushes == 1 => Some(writer.taken),
-        _ => None,
-    }
+    text_of(rt, alloc, state, &options, batch, gate)
 }
 
 /// What a run is asked for, a batch, and the text that is written of it.
@@ -191,7 +203,7 @@ pub(crate) const ROWS: [Row; 11] = [
     (BITONIC_TWO, b"epoch,client,entry\n1,007,0\n", SEVEN_SERVED),
 ];
 
-const THREE_CLIENTS: &[u8] = b"epoch,client,entry\n\
+pub(crate) const THREE_CLIENTS: &[u8] = b"epoch,client,entry\n\
       1,5,0\n\
       1,6,1\n\
       1,7,2\n";

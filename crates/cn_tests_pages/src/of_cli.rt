@@ -13,7 +13,7 @@ pub fn width_named(alloc: Global, words: Vec<String>) -> Option<u32>
     match parse_words(alloc, words).ok()? {
         Job::Run(options) => Some(options.net().width()),
         Job::Replay(net) => Some(net.width()),
-        Job::Check(asked) => Some(asked.width),
+        Job::Check(width) | Job::CheckLarge(width) => Some(width),
         Job::Show(net) => Some(net.width()),
     }
 }

@@ -13,8 +13,8 @@ pub use cn_renamer::{
     WordsFault, check, parse_words, replay, serve, show,
 };
 pub use cn_report::{
-    Batch, BatchCause, BatchEpoch, BatchFault, EmitFault, Flaw, ScheduleCause, ScheduleFault, Tight,
-    TightEpoch, check_grants, emit, read_batch, read_schedule, render_grants, render_replay,
+    Batch, BatchCause, BatchEpoch, BatchFault, EmitFault, Flaw, ScheduleCause, ScheduleFault,
+    Tight, TightEpoch, check_grants, emit, read_batch, read_schedule, render_grants, render_replay,
     render_report, render_tight, render_wiring,
 };
 pub use cn_tree::tree;
@@ -24,7 +24,6 @@ pub use cn_walk::{
 };
 pub use cn_wiring::{Counting, Draft, End, Kind, Wiring, WiringFault, is_width};
 pub use cn_yard::{Token, Yard};
-
 use std::alloc::Global;
 use std::io::Write;
 

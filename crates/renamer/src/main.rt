@@ -24,7 +24,7 @@ fn input_of(job: &Job) -> Option<&'static str> {
     match job {
         Job::Run(_) => Some("a batch"),
         Job::Replay(_) => Some("a schedule"),
-        Job::Check(_) => Some("a list of grants"),
+        Job::Check(_) | Job::CheckLarge(_) => Some("a list of grants"),
         Job::Show(_) => None,
     }
 }

@@ -16,8 +16,6 @@ clients of a data set that lies on many processes. A `Taker` takes names without
 proved program `check` looks at names from anywhere, and `run` names a batch.
 """
 
-from types import FunctionType
-
 from ._arrays import Quiet
 from ._floor import CLIENT, GRANT, Floor, Lane, Network
 from ._library import (
@@ -70,5 +68,5 @@ __all__ = [
 __version__ = ".".join(map(str, version()))
 # Tracebacks, pickles and help have them as users call them: renamer.Duplicate, without the file that it is made in.
 for _name in __all__:
-    if isinstance(_public := globals()[_name], (type, FunctionType)):
+    if hasattr(_public := globals()[_name], "__qualname__"):
         _public.__module__ = __name__

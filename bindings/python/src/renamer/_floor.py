@@ -5,13 +5,15 @@ from __future__ import annotations
 import os
 import threading
 import weakref
+from functools import partial
+from operator import attrgetter
 from typing import Any, Literal, NoReturn, TypeVar
 
 import numpy as np
 import numpy.typing as npt
 
 from . import _library as lib
-from ._arrays import Clients, Quiet, as_clients
+from ._arrays import Clients, Quiet, as_clients, room
 
 Network = Literal["bitonic", "periodic", "tree"]
 _KINDS = {"bitonic": 0, "periodic": 1, "tree": 2}
@@ -43,9 +45,16 @@ class Owned:
 
     _free = lib.free_lane
 
-    def __init__(self, handle: lib.Handle) -> None:
-        self._handle, self._lock, self._number = handle, threading.Lock(), lib.Number()
+    def __init__(self, network: Network, width: int) -> None:
+        """With a handle that has nothing yet: a call puts something into that of an owner, so that it has one at once,
+        whenever Ctrl-C comes."""
+        self.network, self.width = network, width
+        self._handle, self._lock, self._number = lib.Handle(), threading.Lock(), lib.Number()
+        self._release = partial(type(self)._free, self._handle)
         _owned.add(self)
+
+    # A function of C, which Ctrl-C cannot end: one of Python may end by it before it has done anything.
+    __del__ = property(attrgetter("_release"), doc="Frees what it has.")
 
     def __enter__(self: _Some) -> _Some:
         return self
@@ -53,16 +62,29 @@ class Owned:
     def __exit__(self, *_: object) -> None:
         self._let_go()
 
-    def __del__(self) -> None:
-        if hasattr(self, "_handle"):
-            type(self)._free(self._handle)
+    def __repr__(self) -> str:
+        return f"<renamer.{type(self).__name__} {self.network} {self.width}, {self._state()}>"
+
+    def _state(self) -> str:
+        """What it has. If another call is using it that is said, and not waited for."""
+        if not self._lock.acquire(blocking=False):
+            return "in use"
+        try:
+            return self._left()
+        except lib.WasFreed:
+            return "freed"
+        finally:
+            self._lock.release()
+
+    def _left(self) -> str:
+        raise NotImplementedError
 
     def __reduce__(self) -> NoReturn:
         raise TypeError(f"a {type(self).__name__.lower()} has one owner: it can be neither copied nor pickled")
 
     def _let_go(self) -> None:
         with self._lock:
-            type(self)._free(self._handle)
+            self._release()
 
 
 def as_network(network: Network, width: int) -> tuple[int, int]:
@@ -103,7 +125,7 @@ class Lane(Owned):
         Raises what `name` raises, and TypeError if the clients are no row of whole numbers.
         """
         wanted, entry = as_clients(clients), lib.in_range(entry)
-        names = np.empty(len(wanted), np.uint64)
+        names = room(len(wanted))
         with self._lock:
             lib.name_list(self._handle, wanted.ctypes.data, len(wanted), entry, names.ctypes.data, len(names))
         return names
@@ -115,13 +137,15 @@ class Lane(Owned):
 
         Raises NoSuchEntry, QuotaSpent, and TypeError if the array is another, or not in one piece.
         """
+        if not isinstance(clients, np.ndarray) or isinstance(clients, np.ma.MaskedArray):
+            raise TypeError(f"an array of the dtype renamer.CLIENT is wanted, and not one {type(clients).__name__}")
         if clients.dtype != CLIENT or clients.ndim != 1 or not clients.flags.c_contiguous:
             raise TypeError("the clients are no array of the dtype renamer.CLIENT in one piece")
         with self._lock:
             return self._grant(clients)
 
     def _grant(self, clients: npt.NDArray[Any]) -> npt.NDArray[Any]:
-        grants = np.empty(len(clients), GRANT)
+        grants = room(len(clients), GRANT)
         lib.name_many(self._handle, clients.ctypes.data, len(clients), grants.ctypes.data, len(grants))
         return grants
 
@@ -130,6 +154,9 @@ class Lane(Owned):
         """How many clients more the lane may let in."""
         with self._lock:
             return lib.ask(lib.quota_left, self._handle)
+
+    def _left(self) -> str:
+        return f"quota {lib.ask(lib.quota_left, self._handle)} left"
 
 
 class Floor:
@@ -146,10 +173,9 @@ class Floor:
     def __init__(
         self, network: Network = "tree", width: int = 2, quota: int = lib.MOST_CLIENTS, *, apart: bool = False
     ) -> None:
-        handle, call = lib.Handle(), lib.open_apart if apart else lib.open_floor
-        call(handle, *as_network(network, width), lib.in_range(quota))
         self.network, self.width = network, width
-        self._rest = Lane(handle)
+        self._rest, call = Lane(network, width), lib.open_apart if apart else lib.open_floor
+        call(self._rest._handle, *as_network(network, width), lib.in_range(quota))
 
     def __enter__(self) -> Floor:
         return self
@@ -157,18 +183,21 @@ class Floor:
     def __exit__(self, *_: object) -> None:
         self._rest.hand_back()
 
+    def __repr__(self) -> str:
+        return f"<renamer.Floor {self.network} {self.width}, {self._rest._state()}>"
+
     def lane(self, quota: int | None = None) -> Lane:
         """A lane with so much of the quota, or with all that is left of it. Lanes that were handed back give theirs
         again.
 
         Raises QuotaSpent if less is left, OverflowError, NoMemory, and WasFreed if the floor was closed.
         """
-        handle, rest = lib.Handle(), self._rest
+        lane, rest = Lane(self.network, self.width), self._rest
         with rest._lock:
             lib.join_all(rest._handle)
             some = lib.ask(lib.quota_left, rest._handle) if quota is None else lib.in_range(quota)
-            lib.split_lane(rest._handle, some, handle)
-        return Lane(handle)
+            lib.split_lane(rest._handle, some, lane._handle)
+        return lane
 
     def close(self) -> Quiet:
         """Takes in all lanes that were handed back, and closes the floor.
@@ -176,12 +205,12 @@ class Floor:
         Raises LanesMissing or LanesThere while a lane is open, NoMemory, and WasFreed if the floor was closed.
         """
         quiet, rest = lib.Handle(), self._rest
-        with rest._lock:
-            lib.join_all(rest._handle)
-            lib.close_floor(rest._handle, quiet)
         try:
-            holders = np.empty(lib.ask(lib.quiet_clients, quiet), np.uint64)
-            counts = np.empty(lib.ask(lib.quiet_exits, quiet), np.uint64)
+            with rest._lock:
+                lib.join_all(rest._handle)
+                lib.close_floor(rest._handle, quiet)
+            holders = room(lib.ask(lib.quiet_clients, quiet))
+            counts = room(lib.ask(lib.quiet_exits, quiet))
             lib.list_holders(quiet, holders.ctypes.data, len(holders))
             lib.list_counts(quiet, counts.ctypes.data, len(counts))
             return Quiet(holders, counts)

@@ -5,7 +5,7 @@ another is an addition, made here.
 """
 
 from collections.abc import Sequence
-from typing import Any, NamedTuple
+from typing import Any, Literal, NamedTuple, overload
 
 import numpy as np
 import numpy.typing as npt
@@ -38,20 +38,40 @@ class Part(NamedTuple):
     counts: Names
 
 
-def number(clients: npt.ArrayLike, *, share: bool = False) -> Names:
+@overload
+def number(clients: npt.ArrayLike, *, share: bool = ..., return_values: Literal[False] = ...) -> Names: ...
+@overload
+def number(
+    clients: npt.ArrayLike, *, share: bool = ..., return_values: Literal[True]
+) -> tuple[Names, npt.NDArray[Any]]: ...
+def number(
+    clients: "npt.ArrayLike", *, share: bool = False, return_values: bool = False
+) -> "Names | tuple[Names, npt.NDArray[Any]]":
     """Names 0 to k-1 for the k clients of a row, each once: an array of int64, as long as the row.
 
     The row is an array, a list or a Series of any length, of whole numbers, texts, bytes or dates. The client at place
     i gets the name i. With `share` a client may stand often: all its records get one name, which is its rank among the
-    distinct clients.
+    distinct clients. With `return_values` a second array says who has which name: `values[n]` is the client with the
+    name n, so `values[names]` is the row. Of datetimes with a zone these are the moments, in UTC.
 
-    Raises Duplicate if a client stands twice, and TypeError if the clients are not of one kind, or one is missing.
+    Raises Duplicate if a client stands twice, and TypeError if the clients are anything else, as booleans, floats or
+    tuples, or not of one kind, or one is missing.
 
     The names of at most 262,144 clients are those of one floor; those of more are of floors behind one another.
     """
     wanted = as_identities(clients)
-    if share:
-        return name_part(wanted, share=True).names
+    names = name_part(wanted, share=True).names if share else _number_distinct(wanted)
+    if not return_values:
+        return names
+    values = np.empty(names.max(initial=-1) + 1, wanted.dtype)
+    values[names] = wanted
+    return names, values
+
+
+def _number_distinct(wanted: npt.NDArray[Any]) -> Names:
+    # A set of texts takes less than a tenth of the time of their sorting.
+    if len(wanted) and type(wanted[0]) is str and len(set(wanted)) == len(wanted):
+        return count_off(len(wanted))
     in_order = np.sort(wanted)
     fresh = _is_fresh(in_order)
     if not fresh.all():
@@ -59,7 +79,7 @@ def number(clients: npt.ArrayLike, *, share: bool = False) -> Names:
     return count_off(len(wanted))
 
 
-def name_part(clients: npt.ArrayLike, epochs: npt.ArrayLike | None = None, *, share: bool = False) -> Part:
+def name_part(clients: "npt.ArrayLike", epochs: "npt.ArrayLike | None" = None, *, share: bool = False) -> Part:
     """Names the clients of one part of a data set, each epoch from 0 on. With `share` the records of one client in an
     epoch share its name. Both rows are as `number` takes one, and equally long.
 
@@ -91,7 +111,10 @@ def name_part(clients: npt.ArrayLike, epochs: npt.ArrayLike | None = None, *, sh
 def first_names(parts: Sequence[tuple[npt.NDArray[Any], Names]]) -> list[Names]:
     """Puts parts behind one another. Given the epochs and the counts of each part, at least of one, it returns for each
     part the first name of each of its epochs, which is how many clients the epoch has in earlier parts."""
-    epochs = np.concatenate([epochs for epochs, _ in parts])
+    present = [epochs for epochs, _ in parts if len(epochs)] or [np.empty(0, np.int64)]
+    epochs = np.concatenate(present)
+    if epochs.dtype.kind == "f":  # numpy makes floats of int64 and uint64
+        epochs = np.concatenate(present, dtype=object)
     counts = np.concatenate([counts for _, counts in parts])
     order = np.argsort(epochs, kind="stable")
     before = np.cumsum(counts[order]) - counts[order]

@@ -7,6 +7,7 @@ they were printed, is Python's work.
 from __future__ import annotations
 
 import pathlib
+import re
 import shutil
 import subprocess
 from typing import Any
@@ -15,13 +16,15 @@ import numpy as np
 import numpy.typing as npt
 
 from ._arrays import Clients, Names, as_clients, as_identities
-from ._parts import Part
+from ._parts import Duplicate, Part
 
-MOST_RECORDS = 1_048_576
+# So many records are made text at once.
+AT_ONCE = 65_536
 
 
 class Refusal(ValueError):
-    """The program refused its input. The message is that of `renamer run`, and its records count from 1."""
+    """The program refused its input. The message says who stands twice, and at which places of the row: they count
+    from 0."""
 
 
 class NotTight(ValueError):
@@ -41,22 +44,39 @@ def program() -> str:
 
 
 def run(clients: npt.ArrayLike, epochs: npt.ArrayLike | None = None) -> Names:
-    """Lets the program name at most 1,048,576 clients, at most 262,144 in an epoch, each epoch in their order from 0
-    on. Clients and epochs are numbers from 0 to 2**64 - 1.
+    """Lets the program name clients, each epoch in their order from 0 on. Clients and epochs are numbers from 0 to
+    2**64 - 1. There may be 2,147,483,648 of them, as far as memory goes.
 
     Returns an array of int64, in the order of the clients. Raises Refusal if a client stands twice in an epoch or there
     are more, TypeError if these are no rows of whole numbers, OverflowError if one is out of range, ValueError if one
     row is longer, FileNotFoundError if there is no program, and OSError if it fails.
     """
-    who = as_clients(clients)
-    when = np.ones_like(who) if epochs is None else as_clients(epochs)
+    when = None if epochs is None else as_clients(epochs)
+    return _run(as_clients(clients), when, None)
+
+
+def run_part(clients: npt.ArrayLike, epochs: npt.ArrayLike | None = None) -> Part:
+    """Names the clients of one part as `name_part` does, by one run of the program."""
+    who, when = as_clients(clients), None if epochs is None else as_identities(epochs)
+    names = _run(who, None if when is None else as_clients(when), who)
+    return Part(names, *np.unique(np.zeros(len(who), np.int8) if when is None else when, return_counts=True))
+
+
+def _run(who: Clients, epochs: Clients | None, by: Clients | None) -> Names:
+    """The names of clients, who come in as they stand in their epoch, or sorted by a row."""
+    when = np.ones_like(who) if epochs is None else epochs
     if len(who) != len(when):
         raise ValueError(f"{len(who)} clients, but {len(when)} epochs")
-    order = np.argsort(when, kind="stable")
+    order = np.argsort(when, kind="stable") if by is None else np.lexsort((by, when))
     sent = when[order], who[order]
-    words = ["run", "--network", "tree", "--width", "2", "--form", "grants"]
-    listed = _ask(words, "epoch,client\n" + _lines(*sent), Refusal)
-    grants = np.fromstring(listed.partition("\n")[2].replace("\n", ","), np.uint64, sep=",").reshape(-1, 3)
+    printed, cause = _ask("run --network tree --width 2 --form grants --large", "epoch,client", *sent)
+    if found := re.fullmatch(r"record (\d+): Duplicate", cause):
+        at = order[int(found[1]) - 1]
+        twice = Duplicate(who[at], None if epochs is None else when[at])
+        raise Refusal(f"{twice}, {_places((who == who[at]) & (when == when[at]))}")
+    if cause:
+        raise Refusal(cause)
+    grants = np.fromstring(printed.partition("\n")[2].replace("\n", ","), np.uint64, sep=",").reshape(-1, 3)
     if not np.array_equal(grants[:, :2], np.stack(sent, axis=1)):
         raise RuntimeError("the program listed other clients, or in another order")
     names = np.empty(len(who), np.int64)
@@ -64,72 +84,50 @@ def run(clients: npt.ArrayLike, epochs: npt.ArrayLike | None = None) -> Names:
     return names
 
 
-def run_part(clients: npt.ArrayLike, epochs: npt.ArrayLike | None = None) -> Part:
-    """Names the clients of one part as `name_part` does, by one run of the program."""
-    who = as_clients(clients)
-    when = np.zeros(len(who), np.int8) if epochs is None else as_identities(epochs)
-    order = np.argsort(who, kind="stable")
-    names = np.empty(len(who), np.int64)
-    names[order] = run(who[order], when[order])
-    return Part(names, *np.unique(when, return_counts=True))
-
-
 def check(names: npt.ArrayLike, clients: npt.ArrayLike | None = None) -> int:
-    """Lets the program look whether names, in any order, are 0 to k-1, each once, and returns k.
-
-    More than 1,048,576 names are looked at in blocks of as many: block b has the names from b * 1,048,576 on. Less the
-    first they must be 0 and up, each once, and all blocks but the last must be full. If there are clients, one who
-    stands twice in a block is found too.
+    """Lets the program look whether names, in any order, are 0 to k-1, each once, and returns k. If there are clients,
+    one who stands twice is found too. There may be 2,147,483,648 names, as far as memory goes.
 
     Raises NotTight if the names are not 0 to k-1, else what `run` raises but Refusal.
     """
-    given = as_names(names)
+    try:
+        given = as_clients(names)
+    except OverflowError as fault:
+        raise NotTight(f"these are not 0 to k-1: {fault}") from None
     who = np.arange(len(given), dtype=np.uint64) if clients is None else as_clients(clients)
     if len(who) != len(given):
         raise ValueError(f"{len(given)} names, but {len(who)} clients")
-    block = given // MOST_RECORDS
-    order = np.argsort(block, kind="stable")
-    there, firsts = np.unique(block[order], return_index=True)
-    for at, some in zip(there.tolist(), np.split(order, firsts[1:])):
-        check_block(given[some], who[some], at, len(given))
+    _, cause = _ask("check --width 2 --large", "epoch,client,name", np.ones_like(given), who, given)
+    if found := re.fullmatch(r"flaw: Gap epoch 1 name (\d+)", cause):
+        raise NotTight(f"of {len(given)} names, which should be those from 0 on, none is {found[1]}")
+    if found := re.fullmatch(r"flaw: Duplicate(Name|Client) record (\d+)", cause):
+        what, row = found[1].lower(), given if found[1] == "Name" else who
+        at = int(found[2]) - 1
+        raise NotTight(f"{what} {row[at]} stands twice, {_places(row == row[at])}")
+    if cause:
+        raise NotTight(cause)
     return len(given)
 
 
-def as_names(names: npt.ArrayLike) -> Names:
-    """A row of names. Raises NotTight if one is below 0 or above 2**63 - 1."""
-    given = np.asarray(names)
-    if given.ndim != 1 or given.dtype.kind not in "iu" and len(given):
-        raise TypeError(f"names are one row of whole numbers, and not {given.ndim} dimensions of {given.dtype}")
-    found = given.astype(np.int64)
-    # One that is too large is below 0 now.
-    if (found < 0).any():
-        raise NotTight("a name is below 0, or above 2**63 - 1")
-    return found
+def _places(same: npt.NDArray[np.bool_]) -> str:
+    """The first two places of a value that stands twice."""
+    return "at the places {} and {}".format(*np.flatnonzero(same)[:2])
 
 
-def check_block(names: Names, clients: Clients, block: int, total: int) -> None:
-    """Lets the program look at a block of so many names in total: whether it is full, or the last one, and tight."""
-    first = block * MOST_RECORDS
-    size = min(MOST_RECORDS, total - first)
-    if len(names) != size:
-        raise NotTight(f"of {total} names {len(names)} are from {first} to {first + MOST_RECORDS - 1}")
-    text = "epoch,client,name\n" + _lines(np.ones_like(names), clients, names - first)
-    try:
-        _ask(["check", "--width", "2"], text, NotTight)
-    except NotTight as flaw:
-        raise NotTight(f"from name {first} on, counted from 0 there, {flaw}" if first else str(flaw)) from None
-
-
-def _lines(*columns: npt.NDArray[Any]) -> str:
+def _ask(words: str, header: str, *columns: npt.NDArray[Any]) -> tuple[str, str]:
+    """What the program prints for these records, and the cause if it refuses them."""
     line = ",".join(["%d"] * len(columns)) + "\n"
-    return "".join([line % record for record in zip(*(column.tolist() for column in columns))])
-
-
-def _ask(words: list[str], text: str, fault: type[ValueError]) -> str:
-    """What the program prints for an input. The fault is raised if it refuses it."""
-    done = subprocess.run([program(), *words], input=text, capture_output=True, text=True)
-    if done.returncode in (1, 4):
-        raise fault(done.stderr.strip().removeprefix("renamer: "))
-    if done.returncode:
-        raise OSError(f"renamer ended with status {done.returncode}: {done.stderr.strip()}")
-    return done.stdout
+    pipe = subprocess.PIPE
+    with subprocess.Popen([program(), *words.split()], stdin=pipe, stdout=pipe, stderr=pipe, text=True) as running:
+        assert running.stdin
+        try:  # it reads all before it prints
+            print(header, file=running.stdin)
+            for first in range(0, len(columns[0]), AT_ONCE):
+                records = zip(*(column[first : first + AT_ONCE].tolist() for column in columns))
+                running.stdin.write("".join([line % record for record in records]))
+        except BrokenPipeError:  # it has refused what it has read
+            pass
+        printed, said = running.communicate()
+    if running.returncode not in (0, 1, 4):
+        raise OSError(f"renamer ended with status {running.returncode}: {said.strip()}")
+    return printed, said.strip().removeprefix("renamer: ") if running.returncode else ""

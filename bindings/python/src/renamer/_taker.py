@@ -2,10 +2,8 @@
 
 from __future__ import annotations
 
-import numpy as np
-
 from . import _library as lib
-from ._arrays import Clients
+from ._arrays import Clients, room
 from ._floor import Network, Owned, as_network
 
 
@@ -23,9 +21,8 @@ class Taker(Owned):
     _free = lib.free_taker
 
     def __init__(self, network: Network = "tree", width: int = 2, *, apart: bool = False) -> None:
-        handle = lib.Handle()
-        lib.open_takes(handle, *as_network(network, width), apart)
-        super().__init__(handle)
+        super().__init__(network, width)
+        lib.open_takes(self._handle, *as_network(network, width), apart)
 
     def split(self) -> Taker:
         """Another taker of the same floor, with 2^40 names, or half of what is left if that is less.
@@ -33,10 +30,9 @@ class Taker(Owned):
         Raises QuotaSpent if no two names are left, and NoMemory.
         """
         other = Taker.__new__(Taker)
-        handle = lib.Handle()
+        Owned.__init__(other, self.network, self.width)
         with self._lock:
-            lib.split_taker(self._handle, handle)
-        Owned.__init__(other, handle)
+            lib.split_taker(self._handle, other._handle)
         return other
 
     def take(self, entry: int = 0) -> int:
@@ -53,9 +49,10 @@ class Taker(Owned):
         """So many names by one entry, as an array of uint64 in no order that is said: all clients who are on a wire go
         on by one step, so a name costs the fewer steps the more are taken.
 
-        Raises what `take` raises, and then no name is taken.
+        Raises what `take` raises, also if the count is out of range, and NoMemory if there is none for the array. Then
+        no name is taken.
         """
-        names = np.empty(lib.in_range(count), np.uint64)
+        names = room(lib.in_range(count))
         with self._lock:
             lib.take_many(self._handle, lib.in_range(entry), names.ctypes.data, len(names))
         return names
@@ -66,6 +63,9 @@ class Taker(Owned):
         it took, and never more than were begun."""
         with self._lock:
             return lib.ask(lib.takes_begun, self._handle)
+
+    def _left(self) -> str:
+        return f"{lib.ask(lib.takes_begun, self._handle)} takes begun"
 
     def free(self) -> None:
         """Frees the taker. What it has not taken is nobody's then. A second time it does nothing."""

@@ -15,9 +15,9 @@ import dask
 import dask.dataframe as dd
 import numpy as np
 
+from . import _program
 from ._arrays import as_identities
 from ._parts import first_names, name_part
-from ._program import MOST_RECORDS, NotTight, as_names, check_block, run_part
 
 
 def number(
@@ -41,18 +41,19 @@ def number(
     fails with RuntimeError.
 
     With `whole` each epoch stays in one partition, which is for many small ones. With `proved` each partition is named
-    by one run of the proved program, which finds duplicates too, and raises Refusal: then clients and epochs are
-    numbers from 0 to 2**64 - 1, a partition has at most 1,048,576 records, and 262,144 of an epoch. Each worker needs
-    this package.
+    by one run of the proved program, which finds duplicates too, and raises Refusal, with places in the partition: then
+    clients and epochs are numbers from 0 to 2**64 - 1. Each worker needs this package.
 
-    Raises ValueError if both `share` and `proved` are asked for, or the frame has a column of this name. As it is
-    computed TypeError is raised if the clients of a partition are not of one kind, or one is missing.
+    Raises TypeError if this is no data frame of Dask, KeyError if it has no such columns, and ValueError if it has one
+    of the name, or both `share` and `proved` are asked for. As it is computed TypeError is raised if the clients of a
+    partition are not of one kind, or one is missing.
     """
+    keys = [column] if epoch is None else [epoch] if whole else [epoch, column]
+    _look_at(frame, column, *keys)
     if share and proved:
         raise ValueError("the program shares no names: take share, or proved")
     if name in frame.columns:
         raise ValueError(f"the frame has a column {name!r} already: call that of the names otherwise")
-    keys = [column] if epoch is None else [epoch] if whole else [epoch, column]
     # Names are added to their records in one task: in another, the records could come in another order.
     named = [
         dask.delayed(_named)(part, column, epoch, name, share, proved)
@@ -65,17 +66,20 @@ def number(
 
 def check(named: Any, name: str = "name") -> int:
     """Lets the proved program look whether the names of a frame without epochs are 0 to k-1, each once, and returns k.
-    Raises NotTight if they are not.
+    The names come to the process that asks, which needs the program, and memory for them.
 
-    The names from b * 1,048,576 on are block b, and are looked at by themselves. Each worker needs the program.
+    Raises NotTight if they are not, TypeError if this is no data frame of Dask, and KeyError if it has no such column.
     """
-    total = len(named)
-    blocks = named[[name]].assign(block=named[name] // MOST_RECORDS)
-    together = _shuffled(blocks, ["block"], total // MOST_RECORDS + 1).to_delayed()
-    checked = sum(dask.compute(*[dask.delayed(_checked)(part, name, total) for part in together]))
-    if checked != total:
-        raise NotTight(f"there were {total} names, and as they were looked at {checked}")
-    return total
+    _look_at(named, name)
+    return _program.check(named[name].compute())
+
+
+def _look_at(frame: Any, *columns: str) -> None:
+    if not isinstance(frame, dd.DataFrame):
+        given = f"{type(frame).__module__.partition('.')[0]}.{type(frame).__name__}"
+        raise TypeError(f"a data frame of Dask is wanted, as dask.dataframe.from_pandas makes one, and not {given}")
+    if absent := [column for column in columns if column not in frame.columns]:
+        raise KeyError(f"there is no column {absent[0]!r}: the columns are {', '.join(map(repr, frame.columns))}")
 
 
 def _shuffled(frame: Any, keys: list[str], partitions: int) -> Any:
@@ -87,7 +91,7 @@ def _shuffled(frame: Any, keys: list[str], partitions: int) -> Any:
 def _named(part: Any, column: str, epoch: str | None, name: str, share: bool, proved: bool) -> tuple[Any, Any, Any]:
     """A partition with its names, its epochs and their counts."""
     clients, epochs = part[column], None if epoch is None else part[epoch]
-    made = run_part(clients, epochs) if proved else name_part(clients, epochs, share=share)
+    made = _program.run_part(clients, epochs) if proved else name_part(clients, epochs, share=share)
     return part.assign(**{name: made.names}), made.epochs, made.counts
 
 
@@ -103,11 +107,3 @@ def _placed(named: tuple[Any, Any, Any], place: tuple[Any, Any, Any], epoch: str
         raise RuntimeError("a partition was computed again, with other clients: persist or save the frame before")
     of_record = np.zeros(len(part), int) if epoch is None else np.searchsorted(epochs, as_identities(part[epoch]))
     return part.assign(**{name: part[name] + place[2][of_record]})
-
-
-def _checked(part: Any, name: str, total: int) -> int:
-    """Lets the program look at the blocks that have met in a partition, and returns how many names they have."""
-    for block, some in part.groupby("block"):
-        names = as_names(some[name])
-        check_block(names, np.arange(len(names), dtype=np.uint64), int(block), total)
-    return len(part)

@@ -209,5 +209,5 @@ together-deep start clients entry n v w net walk none out more some =
       | inl l ↦ absurd (
           let few : length walk.wires ≤ start.network.depth = omega (arith, l) in
           omega (arith, many, some, mul-le-mul_left n few, spread n start.network.depth 1)
-      )
+          )
     ]

@@ -57,8 +57,11 @@ module _ (start : Start) (began : IsStart start) (s : FloorState) (kept : KeepsR
           | inl e ↦
               let whole : m + name ≡ name_of t.width g.exit g.visit = omega (arith, e, is) in
               eq-eqb g.name name e
-              ∙ sym (rw (eq-eqb at g.exit (ap (λ (n : ℕ). n % t.width) whole ∙ its.0), eq-eqb g.visit turn
-                  (sym (ap (λ (n : ℕ). n / t.width) whole ∙ its.1))) refl)
+              ∙ sym (rw (
+                eq-eqb at g.exit (ap (λ (n : ℕ). n % t.width) whole ∙ its.0),
+                eq-eqb g.visit turn
+                    (sym (ap (λ (n : ℕ). n / t.width) whole ∙ its.1)),
+              ) refl)
           | inr other ↦ ne_eqb g.name name other ∙ sym (not-both g other is)
         ]))
       where
@@ -66,12 +69,12 @@ module _ (start : Start) (began : IsStart start) (s : FloorState) (kept : KeepsR
         not-both g other is = elim (cases_eq at g.exit) [
           | inr n ↦ rw (ne_eqb at g.exit n) refl
           | inl e ↦ elim (cases_eq g.visit turn) [
-              | inr n ↦ rw (eq-eqb at g.exit e, ne_eqb g.visit turn n) refl
-              | inl f ↦ absurd (
-                  let same : name_of t.width g.exit g.visit ≡ name_of t.width at turn = λ i. name_of t.width (sym e i) (f i) in
-                  other (omega (arith, is, same, name_of-exit_of t.width (m + name)))
-              )
-            ]
+            | inr n ↦ rw (eq-eqb at g.exit e, ne_eqb g.visit turn n) refl
+            | inl f ↦ absurd (
+                let same : name_of t.width g.exit g.visit ≡ name_of t.width at turn = λ i. name_of t.width (sym e i) (f i) in
+                other (omega (arith, is, same, name_of-exit_of t.width (m + name)))
+                )
+          ]
         ]
 
     -- so the name is granted as often as the ledger gives it

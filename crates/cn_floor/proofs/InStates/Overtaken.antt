@@ -51,7 +51,8 @@ module _ (t : Table) where
     others : (x d : ℕ) → d ≢ client → m.standing x d ≡ l.standing x d
 
   module _ (formed : IsWellFormed t) where
-    comes-by : (fuel wire client : ℕ) (l : Ledger) (end : End) → wire < length t.ends → length t.ends ≤ wire + suc fuel → end_of t wire ≡ end
+    comes-by : (fuel wire client : ℕ) (l : Ledger) (end : End) → wire < length t.ends
+        → length t.ends ≤ wire + suc fuel → end_of t wire ≡ end
         → 1 ≤ l.standing wire client → 1 ≤ l.on wire
         → ((next : ℕ) (n : Ledger) → next < length t.ends → length t.ends ≤ next + fuel → 1 ≤ n.standing next client → 1 ≤ n.on next
         → (m : Ledger) × Comes n m client next)
@@ -84,7 +85,8 @@ module _ (t : Table) where
         let off : ◌≡◌ {A = ℕ} (when (eqb wire next && eqb client client) 1) 0 =
         ap {B = ℕ} (λ q. when (q && eqb client client) 1) (ne_eqb wire next (λ e. omega (arith, e, ahead))) in
         let gone : one_at wire next ≡ 0 = ap {B = ℕ} (λ q. when q 1) (ne_eqb wire next (λ e. omega (arith, e, ahead))) in
-        let own : ◌≡◌ {A = ℕ} (when (eqb client client) (one_at next next)) 1 = rw (eq-eqb client client refl, eq-eqb next next refl) refl in
+        let own : ◌≡◌ {A = ℕ} (when (eqb client client) (one_at next next)) 1 =
+        rw (eq-eqb client client refl, eq-eqb next next refl) refl in
         let come : one_at next next ≡ 1 = rw (eq-eqb next next refl) refl in
         let (m, way) = rest next n (omega (arith, held, two, formed.wires)) (omega (arith, enough, ahead))
         (omega (arith, passes.goes.standing next client, off, own)) (omega (arith, passes.goes.on next, gone, come)) in
@@ -108,7 +110,8 @@ module _ (t : Table) where
             granted = λ d i v name. way.granted d i v name ∙ passes.granted d i v name;
             others = λ x d other.
                 let none : ◌≡◌ {A = ℕ} (when (eqb wire x && eqb client d) 1) 0 =
-                ap {B = ℕ} (λ q. when (eqb wire x && q) 1) (ne_eqb client d (λ e. other (sym e))) ∙ ap {B = ℕ} (λ q. when q 1) (never (eqb wire x)) in
+                ap {B = ℕ} (λ q. when (eqb wire x && q) 1) (ne_eqb client d (λ e. other (sym e)))
+                ∙ ap {B = ℕ} (λ q. when q 1) (never (eqb wire x)) in
                 let nothing : ◌≡◌ {A = ℕ} (when (eqb client d) (one_at next x)) 0 =
                 ap {B = ℕ} (λ q. when q (one_at next x)) (ne_eqb client d (λ e. other (sym e))) in
                 omega (arith, way.others x d other, passes.goes.standing x d, none, nothing);
@@ -158,7 +161,8 @@ module _ (t : Table) where
             granted = λ d i v name. way.granted d i v name ∙ enters.granted d i v name;
             others = λ x d other.
                 let none : ◌≡◌ {A = ℕ} (when (eqb 0 x && eqb client d) 1) 0 =
-                ap {B = ℕ} (λ q. when (eqb 0 x && q) 1) (ne_eqb client d (λ e. other (sym e))) ∙ ap {B = ℕ} (λ q. when q 1) (never (eqb 0 x)) in
+                ap {B = ℕ} (λ q. when (eqb 0 x && q) 1) (ne_eqb client d (λ e. other (sym e)))
+                ∙ ap {B = ℕ} (λ q. when q 1) (never (eqb 0 x)) in
                 omega (arith, way.others x d other, enters.standing x d, none);
           },
         )
@@ -208,7 +212,8 @@ module _ (t : Table) where
             gets = omega (arith, leaves.granted client way.exit turn name, in_front.granted client way.exit turn name, one);
             others = λ x d other.
                 let none : ◌≡◌ {A = ℕ} (when (eqb way.to x && eqb client d) 1) 0 =
-                ap {B = ℕ} (λ q. when (eqb way.to x && q) 1) (ne_eqb client d (λ e. other (sym e))) ∙ ap {B = ℕ} (λ q. when q 1) (never (eqb way.to x)) in
+                ap {B = ℕ} (λ q. when (eqb way.to x && q) 1) (ne_eqb client d (λ e. other (sym e)))
+                ∙ ap {B = ℕ} (λ q. when q 1) (never (eqb way.to x)) in
                 let nothing : ◌≡◌ {A = ℕ} (when (eqb client d) 0) 0 = ap {B = ℕ} (λ q. when q 0) (ne_eqb client d (λ e. other (sym e))) in
                 omega (arith, in_front.others x d other, leaves.goes.standing x d, none, nothing);
           },
@@ -273,7 +278,8 @@ module _ (t : Table) where
         let (m, first) = walks 1 l in
         let waits-first : Waits counts 0 wire e low ends m (n + 1 + 1) =
         waits-on counts 0 wire e low ends l m (n + 1) 1 waits first (λ x. omega (arith, x)) in
-        let (p, history, leads, waits-more) = walk-more counts 0 wire e low ends (w - 2) (n + 1 + 1) 1 m waits-first (λ x. omega (arith, x)) in
+        let (p, history, leads, waits-more) =
+        walk-more counts 0 wire e low ends (w - 2) (n + 1 + 1) 1 m waits-first (λ x. omega (arith, x)) in
         let (q, last) = walks 2 p in
         let waits-last = waits-on counts 0 wire e low ends p q (n + 1 + 1 + (w - 2)) 2 waits-more last (λ x. omega (arith, x)) in
         let spread : (a b : ℕ) → a * (b + 1) ≡ a * b + a = λ a b. omega arith in

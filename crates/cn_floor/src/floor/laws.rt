@@ -104,8 +104,8 @@ impl<'a> Floor<'a> {
     {}
 
     /// At each moment as many of the names below the number of clients that came in are not granted yet as clients are
-    /// inside. Each exit's count is its share of the clients that ever came, or less by no more than are inside; and the
-    /// counts of any two exits differ by at most one more than are inside.
+    /// inside. Each exit's count is its share of the clients that ever came, or less by no more than are inside; and
+    /// the counts of any two exits differ by at most one more than are inside.
     pub fn as_many_names_are_missing_as_are_inside(&self)
         ensures names { InEachState self.now.start (λ start s. names_missing_at start s ≡ inside_at start s) }
         ensures counts { InEachState self.now.start (λ start s. IsNearShares start.network.table (ledger_at start s)) }
@@ -125,9 +125,9 @@ impl<'a> Floor<'a> {
         self.start_laws();
     }
 
-    /// What happens on a floor goes on: the events of an atomic step lead from the ledger of the state before it to that
-    /// of the state after it, and histories can be joined. An entry and a move are one event, a list that comes in and a
-    /// sweep are one for each client.
+    /// What happens on a floor goes on: the events of an atomic step lead from the ledger of the state before it to
+    /// that of the state after it, and histories can be joined. An entry and a move are one event, a list that comes in
+    /// and a sweep are one for each client.
     pub fn histories_go_on(&self)
         ensures enters { (v w : View) (client entry : ℕ) (step : IsAtomicStep self.now.start v w
             (λ l m. Enters self.now.start.network.table l m client entry))

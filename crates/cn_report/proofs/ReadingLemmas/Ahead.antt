@@ -25,12 +25,6 @@ pub stretch-read : {R : Type 0} (remaining : R → Option (List ℕ)) (old new :
 stretch-read remaining old new heading bounds text before records arrivals end spelled read ends =
     record { records = records; spelled = spelled; first = read-first remaining old text (before ++ records) read; ends = ends }
 
--- a stretch after which a reader does not go on, and which has no cause, is the last
-pub at-an-end : (end : Result Bool BatchCause) (others goes : Bool) → end ≡ Ok others → goes ≡ false → (end ≡ Ok true → goes ≡ true)
-    → end ≡ Ok false
-at-an-end end true goes is stops so = let both = sym stops ∙ so is in cc
-at-an-end end false goes is stops so = is
-
 -- what is read later still has the same header
 pub same-header : {R : Type 0} (old mid new : ArrivalReader R) → HasSameHeader old mid → HasSameHeader mid new → HasSameHeader old new
 same-header old mid new first second = record { heading = second.heading ∙ first.heading; bounds = second.bounds ∙ first.bounds }

@@ -1,5 +1,5 @@
 -- A stretch of a batch: arrivals that are read together, before they are gathered.
-use Rattle.std.specs.Prelude.{ℕ, ◌≡◌, ◌≢◌, ◌<◌, ◌+◌, ◌⊎◌, ◌++◌, ◌∷◌, [], Bool, List, Option, Result, MatchResult, IfErr, IfOk, OnOk, Ok, Err, Some, true, drop, length, map}
+use Rattle.std.specs.Prelude.{ℕ, ◌≡◌, ◌≢◌, ◌<◌, ◌+◌, ◌⊎◌, ◌++◌, ◌∷◌, [], Bool, List, Option, Result, MatchResult, IfErr, OnOk, Ok, Err, Some, true, drop, length, map}
 use Rattle.std.specs.Bool.{MatchBool}
 use Rattle.cn_report.specs.Reading.Arrival.{arrival_in, arrivals_in}
 use Rattle.cn_report.specs.Reading.Batch.{IsBatchFault, IsOfReading, batch_cause}
@@ -73,10 +73,6 @@ pub record ReadsStretch {R : Type 0} (remaining : R → Option (List ℕ)) (old 
   pub same : HasSameHeader old new
   pub reads : (text : List ℕ) (before : List Record) → HasRead remaining old.records.value text before
       → HasStretch remaining new.records.value old.heading old.bounds text before arrivals end
-
--- a stretch after which others may come is full: it has as many arrivals as were asked for
-abbrev pub IsFull : ℕ → List Arrival → Result Bool BatchCause → Type 0
-IsFull most arrivals end = IfOk end (λ others. others ≡ true → length arrivals ≡ most)
 
 -- what becomes of arrivals that are gathered: either all are accepted, or this is the fault of any batch that goes on
 -- with the records that spell them

@@ -3,9 +3,8 @@
 mod arrival;
 mod arrivals;
 mod gathering;
-mod readers;
 
-ghost use Rattle.std.specs.Prelude.{◌≡◌, ◌↔◌, ◌<◌, ◌≤◌, [], ℕ, IfErr, IfOk, IfSome, List, MatchResult, Ok, false, true};
+ghost use Rattle.std.specs.Prelude.{◌≡◌, ◌<◌, ◌≤◌, [], ℕ, IfErr, IfOk, IfSome, List, MatchResult, false};
 ghost use Rattle.cn_spec.specs.declared.limits.TheConstants.{MOST_RECORDS};
 ghost use Rattle.cn_report.specs.Reading.Batch.{AnswersBatch, AreServable, IsBatch, IsBatchFault, clients_of_epochs};
 ghost use Rattle.cn_report.specs.Reading.Bounds.{AreBounds, bounds_of};
@@ -16,7 +15,6 @@ ghost use Rattle.cn_report.specs.declared.reading.records.RecordFault.TheVariant
 
 use crate::reading::batch::arrivals::ArrivalReader;
 use crate::reading::batch::gathering::Gathering;
-use crate::reading::batch::readers::{OneThread, Readers, STRETCH, TwoThreads};
 use crate::reading::batch_fault::{BatchCause, BatchFault};
 use crate::reading::bounds::Bounds;
 use crate::reading::clipped::{Clipped, ReadTelling};
@@ -24,9 +22,10 @@ use cn_ledger::Client;
 use std::alloc::Global;
 use std::hash::RandomState;
 use std::io::Read;
-use std::mem;
-use std::sync::Wait;
-use std::thread::Threads;
+
+/// How many records are read at most after one, before all of them are gathered: look-ups that follow one another at
+/// once take less time than look-ups between reads.
+const LATER: u64 = 63;
 
 /// The epochs of a batch.
 #[derive(Debug, Drop)]
@@ -44,16 +43,8 @@ pub struct BatchEpoch {
     pub clients: Vec<Client>,
 }
 
-/// Whether others may come after a stretch that ended so.
-fn goes_on(end: Result<bool, BatchCause>) -> bool
-    ensures { (result ≡ true) ↔ (end ≡ Ok true) }
-{
-    matches!(end, Ok(true))
-}
-
 /// The epochs of a batch of which the header was read.
-fn read_epochs<I: ReadTelling + Drop, T: Readers>(
-    readers: &T,
+fn read_epochs<I: ReadTelling + Drop>(
     alloc: Global,
     source: &mut ArrivalReader<I>,
     gathering: Gathering,
@@ -69,34 +60,29 @@ fn read_epochs<I: ReadTelling + Drop, T: Readers>(
     ensures told { IfErr result (λ fault. fault.cause ≡ BatchCause.Read
         → HasStopped I.failed source.new.records.value no_record.Read) }
 {
+    let bounds = source.bounds();
     let mut gathering = gathering;
-    let (mut stretch, mut next) = (Vec::new(alloc), Vec::new(alloc));
-    let mut end = source.read_stretch(STRETCH, &mut stretch);
-    while goes_on(end) {
-        let (gathered, next_end) = readers.gather_and_read(
-            alloc,
-            source,
-            &stretch,
-            &mut next,
-            &mut gathering,
-        );
-        gathered?;
-        mem::swap(&mut stretch, &mut next);
-        end = next_end;
-    }
-    gathering.gather(alloc, source.bounds(), &stretch)?;
-    match end {
-        Ok(_) => gathering.finish(alloc),
-        Err(cause) => Err(BatchFault {
-            at: gathering.next(),
-            cause,
-        }),
+    let mut stretch = Vec::new(alloc);
+    loop {
+        // The record too many is the last that is read.
+        let left = bounds.records - (gathering.next() - 1);
+        let end = source.read_stretch(1 + LATER.min(left), &mut stretch);
+        gathering.gather(alloc, bounds, &stretch)?;
+        let others = match end {
+            Ok(others) => others,
+            Err(cause) => {
+                let at = gathering.next();
+                return Err(BatchFault { at, cause });
+            }
+        };
+        if !others {
+            return gathering.finish(alloc);
+        }
     }
 }
 
-/// Reads a batch by one thread or by two.
-fn read_by<R: ReadTelling + Drop, T: Readers>(
-    readers: &T,
+/// Reads a batch.
+fn read_text<R: ReadTelling + Drop>(
     alloc: Global,
     reader: R,
     bounds: Bounds,
@@ -109,7 +95,7 @@ fn read_by<R: ReadTelling + Drop, T: Readers>(
     ensures few { IfOk result (λ batch. clients_of_epochs batch.epochs.items ≤ bounds.records) }
 {
     let mut source = ArrivalReader::open(alloc, reader, bounds)?;
-    let epochs = read_epochs(readers, alloc, &mut source, Gathering::new(alloc, state))?;
+    let epochs = read_epochs(alloc, &mut source, Gathering::new(alloc, state))?;
     Ok(Batch { epochs })
 }
 
@@ -155,27 +141,5 @@ pub fn read_batch_within<R: Read + Drop>(
     ensures fits { IfOk result (λ batch. AreServable bounds batch.epochs.items) }
     ensures few { IfOk result (λ batch. clients_of_epochs batch.epochs.items ≤ bounds.records) }
 {
-    read_by(&OneThread, alloc, Clipped::new(reader), bounds, state)
-}
-
-/// The epochs of a batch, as [`read_batch_within`] reads them, by two threads: one gathers records while the other
-/// reads on.
-///
-/// # Errors
-///
-/// Those of [`read_batch_within`].
-pub fn read_batch_by_two<R: Read + Drop, T: Threads + Wait + Sync>(
-    rt: &T,
-    alloc: Global,
-    reader: R,
-    bounds: Bounds,
-    state: RandomState,
-) -> Result<Batch, BatchFault>
-    requires { AreBounds bounds }
-    ensures answer { IfSome (R.remaining reader) (λ text.
-        AnswersBatch bounds (records_of text) result) }
-    ensures fits { IfOk result (λ batch. AreServable bounds batch.epochs.items) }
-    ensures few { IfOk result (λ batch. clients_of_epochs batch.epochs.items ≤ bounds.records) }
-{
-    read_by(&TwoThreads(rt), alloc, Clipped::new(reader), bounds, state)
+    read_text(alloc, Clipped::new(reader), bounds, state)
 }

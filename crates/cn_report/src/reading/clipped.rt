@@ -7,9 +7,12 @@ ghost use Rattle.cn_report.specs.Reading.Clipped.{after_byte, clipped, clipped_r
 
 use std::io::{Read, Result};
 
-/// A reader that tells whether its last read failed.
+/// A reader that tells whether its last read failed, and how many bytes it gave.
 pub(crate) trait ReadTelling: Read {
     ghost failed: { Self → Bool };
+
+    /// How many bytes it gave.
+    fn given(&self) -> u64;
 
     /// Whether its last read failed.
     fn has_failed(&self) -> bool
@@ -69,6 +72,7 @@ pub(crate) struct Clipped<R: Read + Drop> {
     reader: R,
     line: Line,
     failed: bool,
+    given: u64,
 }
 
 impl<R: Read + Drop> Clipped<R> {
@@ -80,6 +84,7 @@ impl<R: Read + Drop> Clipped<R> {
             reader,
             line: Line::Header(0),
             failed: false,
+            given: 0,
         }
     }
 }
@@ -102,6 +107,7 @@ impl<R: Read + Drop> Read for Clipped<R> {
         self.failed = false;
         let (line, count) = self.line.after_all(&bytes[..read]);
         self.line = line;
+        self.given = self.given.saturating_add(count as u64);
         Ok(count)
     }
 }
@@ -111,5 +117,9 @@ impl<R: Read + Drop> ReadTelling for Clipped<R> {
 
     fn has_failed(&self) -> bool {
         self.failed
+    }
+
+    fn given(&self) -> u64 {
+        self.given
     }
 }

@@ -5,7 +5,7 @@ use super::runs::{Answer, is_answered};
 use crate::serving::Asked;
 use cn_floor::OpenGate;
 use cn_nets::Net;
-use cn_renamer::{CheckFault, ReplayFault, check, replay};
+use cn_renamer::{CheckFault, ReplayFault, check_within, replay};
 use cn_report::{
     Batch, BatchCause, Bounds, Flaw, ScheduleCause, ScheduleFault, read_batch, read_batch_within,
 };
@@ -16,10 +16,10 @@ use std::sync::Wait;
 use std::test::Fail;
 use std::thread::Threads;
 
-/// One worker, whose batch one thread reads.
+/// One worker.
 pub(super) const ONE_WORKER: Asked = (Kind::Tree, 2, 1, 1);
 
-/// Two workers, whose batch two threads read.
+/// Two workers.
 pub(super) const TWO_WORKERS: Asked = (Kind::Tree, 2, 2, 1);
 
 /// Full epochs from 1 on, of which each client comes once in all, and this end.
@@ -176,7 +176,7 @@ fn checked(
 ) -> Option<(Result<(), CheckFault>, Vec<u8>)> {
     let mut written = Vec::new(alloc);
     if is_width(2) {
-        let done = check(alloc, full_list(last), &mut written, 2, large);
+        let done = check_within(alloc, full_list(last), &mut written, 2, large);
         Some((done, written))
     } else {
         None

@@ -20,7 +20,10 @@ returns c =
     (with_rule (with_rule run workers) hand) form form with_hand refl c.with_option-command-3.ensures in
     let carry = flag_rule (codes "carry") in
     let large = flag_rule (codes "large") in
+    let together = flag_rule (codes "together") in
     let with_carry = argued app_of c.with_option-command-3.result c.with_flag-command.result run_with_values
     carry carry with_form refl c.with_flag-command.ensures in
-    argued app_of c.with_flag-command.result c.with_flag.result (with_rule run_with_values carry)
-    large large with_carry refl c.with_flag.ensures
+    let with_large = argued app_of c.with_flag-command.result c.with_flag-command-2.result (with_rule run_with_values carry)
+    large large with_carry refl c.with_flag-command-2.ensures in
+    argued app_of c.with_flag-command-2.result c.with_flag.result (with_rule (with_rule run_with_values carry) large)
+    together together with_large refl c.with_flag.ensures

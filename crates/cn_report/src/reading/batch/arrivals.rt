@@ -1,13 +1,13 @@
 //! The arrivals of a batch, read one after another.
 
-ghost use Rattle.std.specs.Prelude.{◌≡◌, ◌<◌, ◌⊎◌, ◌∷◌, ◌++◌, [], ℕ, Err, IfErr, IfOk, IfSome, List, MatchOption, MatchResult, Ok, OnOk, Some};
+ghost use Rattle.std.specs.Prelude.{◌≡◌, ◌<◌, ◌≤◌, ◌⊎◌, ◌∷◌, ◌++◌, [], ℕ, Err, IfErr, IfOk, IfSome, List, MatchOption, MatchResult, Ok, OnOk, Some, length, true};
 ghost use Rattle.cn_report.specs.Reading.Arrival.{arrival_in};
 ghost use Rattle.cn_report.specs.Reading.Batch.{IsBatchFault, IsOfReading, batch_cause_of_fault};
 ghost use Rattle.cn_report.specs.Reading.Bounds.{AreBounds};
 ghost use Rattle.cn_report.specs.declared.reading.bounds.Bounds.{Bounds};
 ghost use Rattle.cn_report.specs.Reading.Heading.{heading_of};
 ghost use Rattle.cn_report.specs.Reading.Records.{HasRead, IsPlain, IsTold, Record, records_of};
-ghost use Rattle.cn_report.specs.Reading.Stretch.{HasHeader, HasSameHeader, IsFull, IsOpen, ReadsStretch};
+ghost use Rattle.cn_report.specs.Reading.Stretch.{HasHeader, HasSameHeader, IsOpen, ReadsStretch};
 
 use crate::reading::batch::arrival::{Arrival, Heading, arrival_of, heading_of};
 use crate::reading::batch_fault::{BatchCause, BatchFault};
@@ -16,6 +16,9 @@ use crate::reading::clipped::ReadTelling;
 use crate::reading::records::{next_record, open_records};
 use csv::{ByteRecord, Reader};
 use std::alloc::Global;
+
+/// More bytes than a record of numbers takes, with quotes and a line end.
+const LONGEST_RECORD: u64 = 128;
 
 /// A batch that is read, record by record.
 #[derive(Drop)]
@@ -105,20 +108,29 @@ impl<R: ReadTelling + Drop> ArrivalReader<R> {
         Ok(Some(arrival_of(&self.fields, self.heading, self.bounds)?))
     }
 
-    /// Reads a stretch in place of the arrivals that were there: `most` arrivals, or fewer if the text ends or a record
-    /// has none. Returns whether others may come.
+    /// Whether the next record was read along with the last, if it is one of numbers: then nothing is waited for.
+    fn is_next_there(&self) -> bool {
+        let given = self.records.get_ref().given();
+        given.saturating_sub(self.records.position().byte()) >= LONGEST_RECORD
+    }
+
+    /// Reads a stretch in place of the arrivals that were there: the next arrival, and those after it that were read
+    /// along, up to so many in all. It ends sooner if the text does or a record has none. Returns whether others may
+    /// come.
     ///
     /// # Errors
     /// The cause for which the record after them has no arrival.
     pub(crate) fn read_stretch(
         &mut self,
-        most: usize,
+        most: u64,
         arrivals: &mut Vec<Arrival>,
     ) -> Result<bool, BatchCause>
-        requires { IsOpen self.old }
+        requires open { IsOpen self.old }
+        requires some { 0 < most }
         ensures reads { ReadsStretch R.remaining self.old self.new arrivals.new.items result }
         ensures told { IfErr result (IsTold R.failed batch_cause_of_fault self.new.records.value) }
-        ensures most { IsFull most arrivals.new.items result }
+        ensures some { IfOk result (λ others. others ≡ true → 0 < length arrivals.new.items) }
+        ensures most { length arrivals.new.items ≤ most }
     {
         arrivals.clear();
         for _taken in 0..most {
@@ -127,6 +139,9 @@ impl<R: ReadTelling + Drop> ArrivalReader<R> {
             };
             if arrivals.push(arrival).is_err() {
                 return Err(BatchCause::Memory);
+            }
+            if !self.is_next_there() {
+                return Ok(true);
             }
         }
         Ok(true)

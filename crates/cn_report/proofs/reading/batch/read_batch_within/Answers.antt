@@ -5,5 +5,5 @@ use Rattle.cn_report.proofs.reading.batch.read_batch_within.Goals as goal
 
 pub returns-clause-answer : goal.returns-clause-answer
 returns-clause-answer g c =
-    clipped-known (g.R.Read.remaining c.args.reader) (λ records. AnswersBatch c.args.bounds records c.read_by.result)
-    (batch-moves c.args.bounds c.read_by.result) (rw c.new.ensures at c.read_by.ensures.answer)
+    clipped-known (g.R.Read.remaining c.args.reader) (λ records. AnswersBatch c.args.bounds records c.read_text.result)
+    (batch-moves c.args.bounds c.read_text.result) (rw c.new.ensures at c.read_text.ensures.answer)

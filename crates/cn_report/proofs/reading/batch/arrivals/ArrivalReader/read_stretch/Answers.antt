@@ -10,7 +10,7 @@ use Rattle.cn_report.proofs.reading.batch.arrivals.ArrivalReader.read_stretch.Go
 
 pub loop-taken-init : goal.loop-taken-init
 loop-taken-init g c = record {
-  plain = c.requires.plain;
+  plain = c.requires.open.plain;
   same = record { heading = refl {a = c.args.self.now.heading}; bounds = refl {a = c.args.self.now.bounds} };
   many = rw c.clear.ensures.items refl;
   reads = λ text before read. ([], rw c.clear.ensures.items refl, rw (append-nil before) read);
@@ -75,6 +75,24 @@ returns-then-is_err-clause-reads g c =
 
 pub returns-then-is_err-clause-told : goal.returns-then-is_err-clause-told
 returns-then-is_err-clause-told g c = told-other batch_cause_of_fault Memory c.in_ok-arrival.ensures.plain.going (λ is. cc is)
+
+pub returns-then-not-is_next_there-clause-reads : goal.returns-then-not-is_next_there-clause-reads
+returns-then-not-is_next_there-clause-reads g c =
+    let good : is_ok c.push.result ≡ true = search rules in
+    let items = rw good at c.push.ensures.items in
+    record {
+      plain = c.in_ok-arrival.ensures.plain;
+      same = same-header _ _ _ c.loop-taken.invariant.same c.next_arrival.ensures.same;
+      reads = λ text before read.
+          let (records, spelled, now) = c.loop-taken.invariant.reads text before read in
+          let (fields, next, is) = rw (c.in-Some.is, c.loop-taken.invariant.same.heading, c.loop-taken.invariant.same.bounds) at
+          (c.in_ok-arrival.ensures.next text (before ++ records) now) in
+          let more = rw (append_assoc before records (fields ∷ [])) at next in
+          stretch-read g.R.Read.remaining c.next_arrival.new.self.records.value c.next_arrival.new.self.records.value
+          c.args.self.now.heading c.args.self.now.bounds text before (records ++ fields ∷ []) c.push.new.self.items (Ok true)
+          (rw items (spelled-more c.args.self.now.heading c.args.self.now.bounds records c.loop-taken.arrivals.items fields
+          c.in-Some.arrival spelled is)) more more;
+    }
 
 pub returns-clause-reads : goal.returns-clause-reads
 returns-clause-reads g c = record {

@@ -11,7 +11,7 @@ use Rattle.cn_renamer.specs.Check.{IsCheckOfKnown, IsTightTextOf, fault_of_outpu
 use Rattle.cn_renamer.specs.Outputs.{until_output}
 use Rattle.cn_renamer.specs.declared.output_fault.OutputFault.{OutputFault}
 use Rattle.cn_renamer.specs.declared.output_fault.OutputFault.TheVariants.{Memory, Write}
-use Rattle.cn_renamer.proofs.checking.check.Goals as goal
+use Rattle.cn_renamer.proofs.checking.check_within.Goals as goal
 
 -- the text of a tight list's epochs is that of its check
 is-check : (width : ℕ) (large : Bool) (known : Option (List ℕ)) (epochs : List NamedEpoch)
