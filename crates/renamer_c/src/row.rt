@@ -45,7 +45,8 @@ pub(crate) const LEVELS: u32 = 5;
 /// How many places a group has: 64^level.
 pub(crate) fn group_size(level: u32) -> usize
     requires { (0 < level) × (level < 5) }
-    ensures { result ≡ 64 ^ level }
+    ensures size { result ≡ 64 ^ level }
+    ensures some { (0 < result) × (result ≤ 16777216) }
 {
     match level {
         1 => 64,

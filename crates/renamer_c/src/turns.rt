@@ -76,7 +76,11 @@ impl Found {
         requires { IsFound floor.now 1 self }
         ensures { IsBack floor.now result.lane }
     {
-        match self.there {
+        let Found {
+            state: _state,
+            there,
+        } = self;
+        match there {
             Some(returned) => Taken::of(returned, floor),
             None => unreachable!(),
         }
