@@ -39,7 +39,7 @@
  * close use them, and those that free a quiet floor or a taker. Calls that name clients or let them in use them only if
  * the lane has no room, which renamer_reserve makes. Calls that step, sweep, take names, hand a lane back or only ask
  * never use them; nor does renamer_free of a lane, which hands it back, if no client is inside. But if the lane is the
- * floor's last, its floor is freed.
+ * floor's last, its floor is freed. A call that takes a lane back frees those that it finds with nothing.
  *
  * THE CALLER'S SIDE. What no call can check is the caller's: no pointer is NULL but one that is freed, and that of an
  * array of size 0. An array is as long as its size says; a number or an array that a call writes overlaps nothing else
@@ -317,6 +317,20 @@ RENAMER_CALL uint32_t renamer_hand_back(renamer_lane *lane);
    that is stopped in a hand-back, a split or a join it may look at some 200 words more.
    RENAMER_NONE, _NOTHING_BACK, _MEMORY. One thread at a time. */
 RENAMER_CALL uint32_t renamer_join(renamer_lane *lane);
+
+/* Gives a lane that was handed back to the floor of `of` to `back`, whole: with its quota, its grants and its room, and
+   nobody inside. It is not said which of several lanes comes. It has quota or grants: a lane that has neither, and is
+   found, is freed, and the search goes on. `of` may be any lane of the floor. It is only asked, so threads may share
+   it. The call takes no memory, since the lane's handle was handed back with it, and frees none but that of lanes with
+   nothing. What a thread wrote before it handed the lane back is seen by the thread that takes it.
+
+   So a floor whose quota is spent may keep free slots: lanes with one grant each, whose name is the number of a slot.
+   Who takes one back has the slot, renamer_grants says which, and who hands it back frees it.
+
+   RENAMER_NOTHING_BACK says that at one moment of the call no lane with quota or grants was back. `back` should be none:
+   if it has a lane, that is handed back once another has come.
+   RENAMER_NONE (`of` is none), _NOTHING_BACK. One thread at a time with one `back`. */
+RENAMER_CALL uint32_t renamer_take_back(const renamer_lane *of, renamer_lane *back);
 
 /* Takes in, one after another, all lanes of the same floor that were back when it was called, but for those that other
    joins take. Of lanes that are handed back meanwhile it may take some: it goes once through the places for lanes, and

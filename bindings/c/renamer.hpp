@@ -203,6 +203,9 @@ class lane : public owner<renamer_lane, renamer_free> {
     status hand_back() noexcept { return status(renamer_hand_back(&handle)); }
     status join() noexcept { return status(renamer_join(&handle)); }
 
+    /* Takes a lane that was handed back to this one's floor, whole. Threads may share this one, which is only asked. */
+    status take_back(lane &back) const noexcept { return status(renamer_take_back(&handle, &back.handle)); }
+
     status join_all() noexcept { return status(renamer_join_all(&handle)); }
 
     status close(quiet &closed) noexcept { return status(renamer_close(&handle, &closed.handle)); }

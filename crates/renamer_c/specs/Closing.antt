@@ -2,7 +2,6 @@
 use Rattle.std.specs.Prelude.{◌≡◌, ℕ, Option, ⊤, length}
 use Rattle.cn_floor.specs.Lane.{LaneValue}
 use Rattle.renamer_c.specs.Refusals.{NotClosed, WithLane}
-use Rattle.renamer_c.specs.Statuses.{status_of_refusal}
 use Rattle.renamer_c.specs.declared.closes.CloseStop.{CloseStop}
 use Rattle.renamer_c.specs.declared.closes.CloseStop.TheVariants.{Nothing, StillWalking, LanesMissing, Memory, LanesThere}
 use Rattle.renamer_c.specs.declared.floor_record.RecordLists.{RecordLists}
@@ -29,7 +28,3 @@ refusal_of_close StillWalking = why.StillWalking
 refusal_of_close LanesMissing = why.LanesMissing
 refusal_of_close (Memory none) = why.Memory
 refusal_of_close (LanesThere others) = why.LanesThere
-
--- the status of a close that stopped
-abbrev pub IsStatusOfClose : Option LaneValue → ℕ → Type 0
-IsStatusOfClose lane status = (s : CloseStop) × (status ≡ status_of_refusal (refusal_of_close s)) × StopsClose lane s

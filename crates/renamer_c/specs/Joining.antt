@@ -7,9 +7,10 @@ use Rattle.renamer_c.specs.Refusals.{WithLane}
 use Rattle.renamer_c.specs.Returns.{IsBack, JoinsTimes}
 use Rattle.renamer_c.specs.declared.floor_with_places.Handed.{Handed}
 use Rattle.renamer_c.specs.declared.floor_with_places.Handed.TheVariants.{AtPlace, NotItsOwn, WithFloor}
-use Rattle.renamer_c.specs.Statuses.{status_of_refusal}
 use Rattle.renamer_c.specs.declared.held_lane.returning.JoinStop.{JoinStop}
 use Rattle.renamer_c.specs.declared.held_lane.returning.JoinStop.TheVariants.{Nothing, NothingBack, Memory}
+use Rattle.renamer_c.specs.declared.held_lane.returning.TakeStop.{TakeStop}
+use Rattle.renamer_c.specs.declared.held_lane.returning.TakeStop.TheVariants as take
 use Rattle.renamer_c.specs.declared.refusal.Refusal.{Refusal}
 use Rattle.renamer_c.specs.declared.refusal.Refusal.TheVariants as why
 use Rattle.renamer_c.specs.declared.searches.Search.{Search}
@@ -18,7 +19,7 @@ use Rattle.renamer_c.specs.declared.searches.TheConstants.{MOST_JOINS}
 -- where a lane ends that is handed back: it is at its place; or its floor, of which it was the only lane, is here; or
 -- it is here, since its place was not its own
 abbrev pub EndsSomewhere : LaneValue → Handed → Type 0
-EndsSomewhere lane (AtPlace p) = IsPut lane p
+EndsSomewhere lane (AtPlace p ended) = IsPut lane p
 EndsSomewhere lane (WithFloor floor) = floor ≡ lane.home
 EndsSomewhere lane (NotItsOwn u here) = IsUnturned 2 u × (here ≡ lane)
 
@@ -35,10 +36,21 @@ refusal_of Nothing = why.Nothing
 refusal_of (NothingBack none) = why.NothingBack
 refusal_of (Memory handed) = why.Memory
 
--- the status of a join that stopped
-abbrev pub IsStatusOfJoin : Option LaneValue → ℕ → Type 0
-IsStatusOfJoin lane status = (s : JoinStop) × (status ≡ status_of_refusal (refusal_of s)) × StopsWith lane s
-
 -- each lane was taken in that a search found which went through all places; or lanes were found for centuries
 abbrev pub AreAllIn : Option LaneValue → Option LaneValue → Search → Type 0
 AreAllIn old new s = (n : ℕ) × JoinsTimes n old new × (n ≡ s.found) × (IsWhole s ⊎ (s.found ≡ MOST_JOINS))
+
+-- what a call leaves by which no lane came whole: what was seen, or that the floor has as many owners as it can have, or
+-- that lanes with nothing were found for centuries
+abbrev pub StopsTake : TakeStop → Type 0
+StopsTake take.Nothing = ⊤
+StopsTake (take.NothingBack none) = IsNoneBack none
+StopsTake (take.Full full) = ⊤
+StopsTake (take.Late gone) = gone.number ≡ MOST_JOINS
+
+-- the refusal by which such a call stops
+abbrev pub refusal_of_take : TakeStop → Refusal
+refusal_of_take take.Nothing = why.Nothing
+refusal_of_take (take.NothingBack none) = why.NothingBack
+refusal_of_take (take.Full full) = why.NothingBack
+refusal_of_take (take.Late gone) = why.NothingBack

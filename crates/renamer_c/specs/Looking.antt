@@ -4,6 +4,7 @@ use Rattle.cn_floor.specs.Lane.{FloorValue}
 use Rattle.renamer_c.specs.Placing.{IsPlaceOf}
 use Rattle.renamer_c.specs.Returns.{IsBack}
 use Rattle.renamer_c.specs.declared.places.Place.{Place}
+use Rattle.renamer_c.specs.declared.places.Spot.{Spot}
 use Rattle.renamer_c.specs.declared.reading_rows.Unread.{Unread}
 use Rattle.renamer_c.specs.declared.reading_rows.TheConstants.{MOST_LOOKS}
 use Rattle.renamer_c.specs.declared.searches.TheConstants.{MOST_SEARCHES}
@@ -30,7 +31,7 @@ pub record IsEmptyRow (row state : ℕ) (e : EmptyRow) : Type 0 where
   pub none : e.number ≡ 0
 
 -- none of the places of a group that begins here was counted in this state
-pub record IsEmptyGroup (first state : ℕ) (e : EmptyGroup) : Type 0 where
+pub record IsEmptyGroup (first : Spot) (state : ℕ) (e : EmptyGroup) : Type 0 where
   pub begins : (e.first ≡ first) × (e.state ≡ state)
   pub size : (0 < e.size) × (e.size ≤ 16777216)
   pub none : e.number ≡ 0

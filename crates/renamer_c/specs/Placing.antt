@@ -1,14 +1,15 @@
 -- Places for lanes that are handed back, and what was seen of them, or done there.
 use Rattle.std.specs.Arc.{arc_value}
-use Rattle.std.specs.Prelude.{◌≡◌, ◌≢◌, ℕ, ◌*◌, ◌^◌, ◌<◌, ◌≤◌, All, List, Option, IsSomeAnd, MatchOption, length}
+use Rattle.std.specs.Prelude.{◌≡◌, ◌≢◌, ℕ, ◌*◌, ◌^◌, ◌<◌, ◌≤◌, All, List, IsSomeAnd, MatchOption, length}
 use Rattle.cn_floor.specs.Lane.{FloorValue, LaneValue}
 use Rattle.renamer_c.specs.Handles.{back_held}
 use Rattle.renamer_c.specs.Returns.{IsBack}
 use Rattle.renamer_c.specs.declared.places.Place.{Place}
-use Rattle.renamer_c.specs.declared.places.Returned.{Returned}
+use Rattle.renamer_c.specs.declared.places.Spot.{Spot}
 use Rattle.renamer_c.specs.declared.reading_rows.RowSlot.{RowSlot}
 use Rattle.renamer_c.specs.declared.row.Row.{Row}
 use Rattle.renamer_c.specs.declared.row.SharedRow.{SharedRow}
+use Rattle.renamer_c.specs.declared.turns.Found.{Found}
 use Rattle.renamer_c.specs.declared.turns.Put.{Put}
 use Rattle.renamer_c.specs.declared.turns.Unturned.{Unturned}
 
@@ -41,13 +42,14 @@ row_size at = 16 * 2 ^ at
 abbrev pub IsUnturned : ℕ → Unturned → Type 0
 IsUnturned state u = u.word ≢ state
 
--- the same of the place with this number
-abbrev pub IsNotIn : ℕ → ℕ → Unturned → Type 0
-IsNotIn at state u = (u.at ≡ at) × IsUnturned state u
+-- the same of the place here: of this row of the floor, with this number there
+abbrev pub IsNotIn : Spot → ℕ → Unturned → Type 0
+IsNotIn spot state u = (u.spot ≡ spot) × IsUnturned state u
 
 -- what stood at a place in this state: a lane of this floor, if the state is that of places with one
-abbrev pub IsFound : FloorValue → ℕ → Option Returned → Type 0
-IsFound floor state there = MatchOption there (state ≢ 1) (λ r. IsSomeAnd (back_held r.boxed.value) (IsBack floor))
+abbrev pub IsFound : FloorValue → ℕ → Found → Type 0
+IsFound floor state f = (f.state ≡ state)
+    × MatchOption f.there (state ≢ 1) (λ r. IsSomeAnd (back_held r.boxed.value) (IsBack floor))
 
 -- this lane was put into a place, whose word then says that it has one
 abbrev pub IsPut : LaneValue → Put → Type 0

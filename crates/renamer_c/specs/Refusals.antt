@@ -128,6 +128,12 @@ abbrev pub NotJoinedAll : Option LaneValue → Refusal → Type 0
 NotJoinedAll lane NothingBack = ⊥
 NotJoinedAll lane r = NotJoined lane r
 
+-- why no lane comes whole: none that was handed back was found
+abbrev pub NotTakenBack : Option LaneValue → Refusal → Type 0
+NotTakenBack of Nothing = of ≡ None
+NotTakenBack of NothingBack = WithLane of (λ l. ⊤)
+NotTakenBack of r = ⊥
+
 -- with nobody inside, a lane has the floor's whole quota, spent or not
 abbrev pub HasAll : LaneValue → Type 0
 HasAll l = (tokens_in l.yard.lists ≡ 0) × (l.view.quota + length l.view.grants ≡ l.home.start.quota)

@@ -1,14 +1,15 @@
 -- Lanes that are handed back to their floor, and taken into others.
-use Rattle.std.specs.Prelude.{◌≡◌, ◌-◌, ℕ, zero, suc, Option, Some, length}
+use Rattle.std.specs.Prelude.{◌≡◌, ◌-◌, ◌+◌, ◌<◌, ◌≤◌, ℕ, zero, suc, Option, Some, length}
 use Rattle.cn_yard.specs.Lists.{tokens_in}
 use Rattle.cn_floor.specs.Lane.{FloorValue, LaneValue}
 use Rattle.cn_floor.specs.Steps.{StoodInState}
 use Rattle.cn_floor.specs.Views.{after_join, after_look}
 
--- a lane of this floor with nobody inside
+-- a lane of this floor with nobody inside; each client for whom it has room has a free record of its yard
 pub record IsBack (floor : FloorValue) (lane : LaneValue) : Type 0 where
   pub home : lane.home ≡ floor
   pub out : tokens_in lane.yard.lists ≡ 0
+  pub spare : lane.room ≤ lane.yard.spare
 
 -- a lane takes in another of its floor, with nobody inside: its grants, its quota and all that it did
 pub record IsJoined (old new other : LaneValue) : Type 0 where
@@ -27,7 +28,16 @@ Joins old new = (l k m : LaneValue) × (old ≡ Some l) × (new ≡ Some k) × I
 abbrev pub HandsBack : Option LaneValue → Type 0
 HandsBack old = (l : LaneValue) × (old ≡ Some l) × IsBack l.home l
 
--- the same of as many lanes, one after another
+-- a lane has quota or grants
+abbrev pub HasAny : LaneValue → Type 0
+HasAny l = 0 < l.view.quota + length l.view.grants
+
+-- a lane of the floor of this one comes whole that was handed back: its grants, its quota, some of either, and nobody
+-- inside
+abbrev pub TakesBack : Option LaneValue → Option LaneValue → Type 0
+TakesBack of back = (l m : LaneValue) × (of ≡ Some l) × (back ≡ Some m) × IsBack l.home m × HasAny m
+
+-- lanes are taken in, as many, one after another
 abbrev pub JoinsTimes : ℕ → Option LaneValue → Option LaneValue → Type 0
 JoinsTimes zero old new = new ≡ old
 JoinsTimes (suc n) old new = (mid : Option LaneValue) × JoinsTimes n old mid × Joins mid new

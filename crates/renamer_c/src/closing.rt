@@ -2,7 +2,7 @@
 
 ghost use Rattle.std.specs.Prelude.{◌≡◌, ◌<◌, None, Some, IfErr, IfOk, OnErr, OnOk};
 ghost use Rattle.renamer_c.specs.Calls.{Closes, OpensAfter};
-ghost use Rattle.renamer_c.specs.Closing.{IsStatusOfClose, StopsClose, refusal_of_close};
+ghost use Rattle.renamer_c.specs.Closing.{StopsClose, refusal_of_close};
 ghost use Rattle.renamer_c.specs.Handles.{lane_in, lane_held, record_in, record_held};
 ghost use Rattle.renamer_c.specs.Refusals.{IsRefusal, NotClosed, NotOpenedAfter};
 ghost use Rattle.renamer_c.specs.declared.refusal.TheConstants.{DONE};
@@ -49,7 +49,6 @@ pub extern "C" fn renamer_close(alloc: Global, lane: &mut Handle, quiet: &mut Ha
     ensures closed { result ≡ DONE → Closes (lane_in lane.old.held) (record_in quiet.new.held) }
     ensures taken { result ≡ DONE → lane.new.held ≡ None }
     ensures kept { 0 < result → (lane.new.held ≡ lane.old.held) × (quiet.new.held ≡ quiet.old.held) }
-    ensures stop { 0 < result → IsStatusOfClose (lane_in lane.old.held) result }
     ensures refused { 0 < result → IsRefusal (NotClosed (lane_in lane.old.held)) result }
 {
     match close(alloc, lane, quiet) {

@@ -1,5 +1,6 @@
 //! A floor that lanes own together, and the places for lanes that are handed back to it.
 
+mod claiming;
 pub(crate) mod closing;
 mod searching;
 
@@ -14,7 +15,7 @@ use crate::kept::Kept;
 use crate::places::Place;
 use crate::reading_rows::RowSlot;
 use crate::row::Counts;
-use crate::turns::{Put, Unturned};
+use crate::turns::{Ended, Put, Unturned};
 use cn_floor::{Floor, Lane};
 use counted_slot::{Counted, FREE, PRESENT};
 use std::alloc::{AllocError, Global};
@@ -24,7 +25,7 @@ use std::sync::atomic::AtomicU64;
 use std::sync::atomic::Ordering::SeqCst;
 
 /// How many rows there are at most.
-const ROWS: usize = 26;
+pub(crate) const ROWS: usize = 26;
 
 /// A floor with places for lanes. To contracts it is the floor.
 #[derive(Drop)]
@@ -50,8 +51,8 @@ impl Model for FloorWithPlaces {
 /// Where a lane went that was handed back, also by a join that could not take it in.
 #[derive(Drop)]
 pub(crate) enum Handed {
-    /// To its place.
-    AtPlace(Put),
+    /// To its place, and its hand-back was counted then.
+    AtPlace(Put, Ended),
     /// Nowhere, since its floor has no other lane, and goes too.
     WithFloor(FloorWithPlaces),
     /// Here, since its place was not its own, which no call makes it.
@@ -101,9 +102,22 @@ impl FloorWithPlaces {
         &self.floor
     }
 
+    /// The row with this number, if it was made.
+    pub(crate) fn slot(&self, row: usize) -> &RowSlot
+        requires { row < 26 }
+        ensures { result.now.row ≡ self.now }
+    {
+        &self.slots[row]
+    }
+
+    /// How many hand-backs ended.
+    pub(crate) fn returns(&self) -> &AtomicU64 {
+        &self.returns
+    }
+
     /// Counts a place more in this state.
     fn add(&self, place: &Place, state: u64)
-        requires { place.now.spot.row < 26 }
+        requires { IsPlaceOf self.now place.now }
     {
         let spot = place.spot();
         self.slots[spot.row].counts.of(state).fetch_add(1, SeqCst);
@@ -112,7 +126,7 @@ impl FloorWithPlaces {
 
     /// Counts a place less in this state.
     fn subtract(&self, place: &Place, state: u64)
-        requires { place.now.spot.row < 26 }
+        requires { IsPlaceOf self.now place.now }
     {
         let spot = place.spot();
         place.row().subtract(spot.place, state);
@@ -134,10 +148,11 @@ impl FloorWithPlaces {
         ensures { EndsSomewhere lane result }
     {
         self.add(&place, PRESENT);
-        let put = place.put(&self.floor, lane, boxed);
-        self.returns.fetch_add(1, SeqCst);
-        match put {
-            Ok(put) => Handed::AtPlace(put),
+        match place.put(&self.floor, lane, boxed) {
+            Ok(put) => {
+                let ended = Ended::after(&put, &self.returns);
+                Handed::AtPlace(put, ended)
+            }
             Err((other, lane)) => Handed::NotItsOwn(other, lane),
         }
     }

@@ -76,7 +76,7 @@ fn floor_over(
 
 impl HeldLane {
     /// A lane with its share of its floor.
-    fn of(floor: FloorShare, lane: Lane, most: u64, place: Place) -> HeldLane
+    pub(crate) fn of(floor: FloorShare, lane: Lane, most: u64, place: Place) -> HeldLane
         requires own { arc_value floor ≡ Some lane.home }
         requires most { most ≡ lane.home.start.quota }
         requires place { IsPlaceOf lane.home place }

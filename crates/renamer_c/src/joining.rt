@@ -1,14 +1,15 @@
 //! Calls that hand lanes back to their floor, and take them into others.
 
 ghost use Rattle.std.specs.Prelude.{◌≡◌, ◌<◌, None, IfErr, IfOk, OnErr, OnOk};
-ghost use Rattle.renamer_c.specs.Handles.{lane_in};
-ghost use Rattle.renamer_c.specs.Joining.{AreAllIn, IsStatusOfJoin, StopsWith, refusal_of};
-ghost use Rattle.renamer_c.specs.Refusals.{IsRefusal, NotHandedBack, NotJoined, NotJoinedAll};
-ghost use Rattle.renamer_c.specs.Returns.{HandsBack, Joins, JoinsAll};
+ghost use Rattle.renamer_c.specs.Handles.{lane_held, lane_in};
+ghost use Rattle.renamer_c.specs.Joining.{AreAllIn, StopsTake, StopsWith, refusal_of, refusal_of_take};
+ghost use Rattle.renamer_c.specs.Refusals.{IsRefusal, NotHandedBack, NotJoined, NotJoinedAll, NotTakenBack};
+ghost use Rattle.renamer_c.specs.Returns.{HandsBack, Joins, JoinsAll, TakesBack};
 ghost use Rattle.renamer_c.specs.declared.refusal.TheConstants.{DONE};
 
 use crate::handle::Handle;
-use crate::held_lane::returning::JoinStop;
+use crate::held::Held;
+use crate::held_lane::returning::{JoinStop, TakeStop};
 use crate::refusal::DONE;
 use crate::searches::Search;
 use std::alloc::Global;
@@ -64,7 +65,6 @@ fn join_one(alloc: Global, lane: &mut Handle) -> Result<(), JoinStop>
 pub extern "C" fn renamer_join(alloc: Global, lane: &mut Handle) -> u32
     ensures joined { result ≡ DONE → Joins (lane_in lane.old.held) (lane_in lane.new.held) }
     ensures kept { 0 < result → lane.new.held ≡ lane.old.held }
-    ensures stop { 0 < result → IsStatusOfJoin (lane_in lane.old.held) result }
     ensures refused { 0 < result → IsRefusal (NotJoined (lane_in lane.old.held)) result }
 {
     match join_one(alloc, lane) {
@@ -103,11 +103,46 @@ fn join_all(alloc: Global, lane: &mut Handle) -> Result<Search, JoinStop>
 #[unsafe(no_mangle)]
 pub extern "C" fn renamer_join_all(alloc: Global, lane: &mut Handle) -> u32
     ensures joined { JoinsAll (lane_in lane.old.held) (lane_in lane.new.held) }
-    ensures stop { 0 < result → IsStatusOfJoin (lane_in lane.new.held) result }
     ensures refused { 0 < result → IsRefusal (NotJoinedAll (lane_in lane.new.held)) result }
 {
     match join_all(alloc, lane) {
         Ok(_) => DONE,
+        Err(stop) => stop.refusal().status(),
+    }
+}
+
+/// Takes a lane of the floor that was handed back, whole, in its box.
+///
+/// # Errors
+/// The first that stands: `Nothing`, `NothingBack`.
+fn take_back(of: &Held) -> Result<Box<Held>, TakeStop>
+    ensures ok { IfOk result (λ b. TakesBack (lane_held of.now) (lane_held b.value)) }
+    ensures stop { IfErr result StopsTake }
+    ensures refused { IfErr result (λ s. NotTakenBack (lane_held of.now) (refusal_of_take s)) }
+{
+    match of.lane() {
+        Ok(lane) => lane.take_back(),
+        Err(_) => Err(TakeStop::Nothing),
+    }
+}
+
+/// Takes a lane of the floor that was handed back, whole: the floor is that of a lane which is only asked.
+#[unsafe(no_mangle)]
+pub extern "C" fn renamer_take_back(of: &mut Handle, back: &mut Handle) -> u32
+    ensures taken { result ≡ DONE → TakesBack (lane_in of.old.held) (lane_in back.new.held) }
+    ensures of { of.new.held ≡ of.old.held }
+    ensures kept { 0 < result → back.new.held ≡ back.old.held }
+    ensures refused { 0 < result → IsRefusal (NotTakenBack (lane_in of.old.held)) result }
+{
+    let taken = match of.get_mut() {
+        Some(held) => take_back(held),
+        None => Err(TakeStop::Nothing),
+    };
+    match taken {
+        Ok(taken) => {
+            back.put(taken);
+            DONE
+        }
         Err(stop) => stop.refusal().status(),
     }
 }

@@ -1,5 +1,5 @@
-//! The box of a handle whose lane was handed back. A place keeps it, and who takes the lane in frees it: so a hand-back
-//! frees nothing.
+//! The box of a handle whose lane was handed back. A place keeps it. Who takes the lane in frees it, and who takes it
+//! whole has its handle there: so a hand-back frees nothing, and that takes nothing.
 
 ghost use Rattle.std.specs.Prelude.{◌≡◌};
 ghost use Rattle.renamer_c.specs.declared.held.Held.TheVariants.{Nothing};
@@ -34,6 +34,24 @@ fn retype(loose: Loose<Held, Global>) -> Loose<Kept, Global>
         at: at as *mut Kept,
         alloc,
     }
+}
+
+/// The same box, by the first type again.
+fn restore(loose: Loose<Kept, Global>) -> Loose<Held, Global>
+    requires { loose.value ≡ Nothing }
+    ensures { result.value ≡ Nothing }
+{
+    let Loose { at, alloc } = loose;
+    Loose {
+        at: at as *mut Held,
+        alloc,
+    }
+}
+
+/// The box of a place, for a handle.
+pub(crate) fn unkeep(mut boxed: Box<Kept>) -> Box<Held> {
+    *boxed = Held::Nothing;
+    restore(Loose::of(boxed)).into_box()
 }
 
 /// The box of a handle, for a place.

@@ -28,6 +28,7 @@ mod reading_rows;
 mod refusal;
 mod row;
 mod searches;
+mod shares;
 mod stepping;
 mod taken;
 mod taking;

@@ -9,9 +9,9 @@ ghost use Rattle.renamer_c.specs.Returns.{IsBack};
 use crate::kept::Kept;
 use crate::loose::Loose;
 use crate::row::{Row, SharedRow};
-use crate::turns::{Put, Unturned, put_at, take_from};
+use crate::turns::{Put, Unturned, free_place, put_at};
 use cn_floor::{Floor, Lane};
-use counted_slot::{FREE, Fits, MARKED};
+use counted_slot::Fits;
 use std::alloc::Global;
 
 /// A lane that was handed back, in the box of its handle. It stands there as a pointer, of which a `&` shows nothing,
@@ -99,21 +99,22 @@ impl Place {
         requires place { IsPlaceOf floor.now self }
         requires lane { IsBack floor.now lane }
         ensures ok { IfOk result (IsPut lane) }
-        ensures err { IfErr result (λ r. IsNotIn self.spot.place 2 r.0 × (r.1 ≡ lane)) }
+        ensures err { IfErr result (λ r. IsNotIn self.spot 2 r.0 × (r.1 ≡ lane)) }
     {
-        let Place { shared, spot } = self;
-        put_at(&shared.row.places, spot.place, floor, lane, boxed)
+        let put = put_at(&self, floor, lane, boxed);
+        self.go_with_floor();
+        put
     }
 
     /// Lets it go, for the lane of another split.
     pub(crate) fn free(self, floor: &Floor<'static>)
         requires { IsPlaceOf floor.now self }
     {
-        let Place { shared, spot } = self;
-        let _ = take_from(&shared.row.places, spot.place, MARKED, FREE, floor);
+        free_place(&self, floor);
+        self.go_with_floor();
     }
 
-    /// Lets it go with its floor.
+    /// Lets it go: with its floor, or once it is put to use or freed.
     pub(crate) fn go_with_floor(self) {
         let Place {
             shared: _shared,

@@ -4,8 +4,9 @@
 ghost use Rattle.std.specs.Arc.{arc_value};
 ghost use Rattle.std.specs.Prelude.{◌≡◌, ◌<◌, ◌≤◌, IfErr, IfOk, length};
 ghost use Rattle.renamer_c.specs.Looking.{IsNoRow};
-ghost use Rattle.renamer_c.specs.Placing.{AreSlotsOf, IsPlaceOf, IsSharedRowOf, row_size};
+ghost use Rattle.renamer_c.specs.Placing.{IsPlaceOf, IsSharedRowOf, row_size};
 
+use crate::floor_with_places::{FloorWithPlaces, ROWS};
 use crate::places::{Place, Spot};
 use crate::row::{Counts, Row, SharedRow};
 use cn_floor::Floor;
@@ -45,6 +46,16 @@ impl ReadRow {
         &self.shared.row
     }
 
+    /// The number of the row, with that of a place there.
+    pub(crate) fn spot(&self, place: usize) -> Spot
+        ensures { result ≡ record { row = self.now.at; place = place } }
+    {
+        Spot {
+            row: self.at,
+            place,
+        }
+    }
+
     /// One of its places, for its taker.
     pub(crate) fn into_place(self, floor: &Floor<'static>, place: usize) -> Place
         requires row { IsSharedRowOf floor.now self.shared × (self.at < 26) }
@@ -63,19 +74,13 @@ impl ReadRow {
 ///
 /// # Errors
 /// If it was not made, or cannot be read.
-pub(crate) fn read_row(
-    slots: &[RowSlot],
-    at: usize,
-    floor: &Floor<'static>,
-) -> Result<ReadRow, Unread>
-    requires rows { AreSlotsOf floor.now slots.now }
-    requires at { at < length slots.now }
+pub(crate) fn read_row(floor: &FloorWithPlaces, at: usize) -> Result<ReadRow, Unread>
+    requires { at < 26 }
     ensures ok { IfOk result (λ row. (row.at ≡ at) × IsSharedRowOf floor.now row.shared) }
     ensures err { IfErr result (IsNoRow at) }
 {
-    // Only the contract reads it: whose lanes stand there.
-    let _ = floor;
-    let mut word = slots[at].row.load();
+    let slot = floor.slot(at);
+    let mut word = slot.row.load();
     let mut full = false;
     for looks in 0..MOST_LOOKS {
         if full || word % 4 != PRESENT || word / ONE_READER >= MOST_READERS {
@@ -86,7 +91,7 @@ pub(crate) fn read_row(
                 full,
             });
         }
-        let (found, claim) = slots[at].row.turn(word, word + ONE_READER);
+        let (found, claim) = slot.row.turn(word, word + ONE_READER);
         if found == word {
             let shared = match claim.get() {
                 Some(shared) => shared.another_owner().ok(),
@@ -118,12 +123,11 @@ pub(crate) struct Unmade {
 
 impl Unmade {
     /// Looks from the last row on.
-    pub(crate) fn of(slots: &[RowSlot]) -> Unmade
-        requires { length slots.now ≡ 26 }
+    pub(crate) fn of(floor: &FloorWithPlaces) -> Unmade
         ensures { result.from ≤ 26 }
     {
-        let mut from = slots.len();
-        while from > 0 && is_free(slots, from - 1) {
+        let mut from = ROWS;
+        while from > 0 && is_free(floor, from - 1) {
             from -= 1;
         }
         Unmade { from }
@@ -138,27 +142,19 @@ impl Unmade {
 }
 
 /// Whether a row was not made.
-pub(crate) fn is_free(slots: &[RowSlot], at: usize) -> bool
-    requires { at < length slots.now }
+pub(crate) fn is_free(floor: &FloorWithPlaces, at: usize) -> bool
+    requires { at < 26 }
 {
-    slots[at].row.load() == FREE
+    floor.slot(at).row.load() == FREE
 }
 
 /// Makes a row, unless another thread made it. Returns whether it did.
-pub(crate) fn make_row(
-    slots: &[RowSlot],
-    at: usize,
-    floor: &Floor<'static>,
-    shared: SharedRow,
-) -> bool
-    requires rows { AreSlotsOf floor.now slots.now }
-    requires at { at < length slots.now }
+pub(crate) fn make_row(floor: &FloorWithPlaces, at: usize, shared: SharedRow) -> bool
+    requires at { at < 26 }
     requires row { IsSharedRowOf floor.now shared }
     requires size { length (arc_value shared.row).places.items ≡ row_size at }
 {
-    // Only the contract reads it: whose lanes stand there.
-    let _ = floor;
-    let (found, claim) = slots[at].row.turn(FREE, TAKEN);
+    let (found, claim) = floor.slot(at).row.turn(FREE, TAKEN);
     if found == FREE {
         let _ = claim.put(Some(shared), PRESENT);
     } else {

@@ -1,7 +1,7 @@
 //! A row of places, and how many of them are in which state.
 
 ghost use Rattle.std.specs.Arc.{arc_value};
-ghost use Rattle.std.specs.Prelude.{◌≡◌, ◌≤◌, ◌<◌, IfOk, length};
+ghost use Rattle.std.specs.Prelude.{◌≡◌, ◌+◌, ◌/◌, ◌^◌, ◌≤◌, ◌<◌, IfOk, IfSome, length};
 ghost use Rattle.renamer_c.specs.Placing.{IsRowOf, IsSharedRowOf};
 
 use crate::turns::OnePlace;
@@ -44,7 +44,9 @@ pub(crate) const LEVELS: u32 = 5;
 
 /// How many places a group has: 64^level.
 pub(crate) fn group_size(level: u32) -> usize
-    ensures { (0 < result) × (result ≤ 16777216) }
+    requires { (0 < level) × (level < 5) }
+    ensures size { result ≡ 64 ^ level }
+    ensures some { (0 < result) × (result ≤ 16777216) }
 {
     match level {
         1 => 64,
@@ -91,31 +93,50 @@ impl Row {
         Ok(row)
     }
 
-    /// The counts of the group to which this place belongs, unless that is the whole row. They stand as a tree does in
-    /// a list: those of the whole row would be the first.
-    pub(crate) fn group(&self, level: u32, at: usize) -> Option<&Counts> {
-        let group = (self.places.len() | at) / group_size(level);
-        if group > 1 {
-            self.groups.get(group)
+    /// The number of the group of 64^level places to which this place belongs, unless that is the whole row. Groups
+    /// stand as a tree does in a list: the whole row would be the first.
+    pub(crate) fn group(&self, level: u32, at: usize) -> Option<usize>
+        requires level { (0 < level) × (level < 5) }
+        requires few { length self.now.places.items ≤ 1099511627776 }
+        requires at { at < length self.now.places.items }
+        ensures { IfSome result (λ group. (group ≡ (length self.now.places.items + at) / 64 ^ level)
+            × (group < length self.now.groups.items)) }
+    {
+        let group = (self.places.len() + at) / group_size(level);
+        if group > 1 && group < self.groups.len() {
+            Some(group)
         } else {
             None
         }
     }
 
+    /// The number of places of a group that are in this state.
+    pub(crate) fn count(&self, group: usize, state: u64) -> &AtomicU64
+        requires { group < length self.now.groups.items }
+    {
+        self.groups[group].of(state)
+    }
+
     /// Counts a place more in this state.
-    pub(crate) fn add(&self, at: usize, state: u64) {
+    pub(crate) fn add(&self, at: usize, state: u64)
+        requires few { length self.now.places.items ≤ 1099511627776 }
+        requires at { at < length self.now.places.items }
+    {
         for level in 1..LEVELS {
-            if let Some(counts) = self.group(level, at) {
-                counts.of(state).fetch_add(1, SeqCst);
+            if let Some(group) = self.group(level, at) {
+                self.count(group, state).fetch_add(1, SeqCst);
             }
         }
     }
 
     /// Counts a place less in this state.
-    pub(crate) fn subtract(&self, at: usize, state: u64) {
+    pub(crate) fn subtract(&self, at: usize, state: u64)
+        requires few { length self.now.places.items ≤ 1099511627776 }
+        requires at { at < length self.now.places.items }
+    {
         for level in 1..LEVELS {
-            if let Some(counts) = self.group(level, at) {
-                counts.of(state).fetch_sub(1, SeqCst);
+            if let Some(group) = self.group(level, at) {
+                self.count(group, state).fetch_sub(1, SeqCst);
             }
         }
     }

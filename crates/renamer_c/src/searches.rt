@@ -7,11 +7,11 @@ ghost use Rattle.std.specs.Prelude.{◌≡◌, ◌+◌, ◌^◌, ◌<◌, ◌≤
 ghost use Rattle.renamer_c.specs.Looking.{IsEmptyGroup, IsEmptyRow, IsNewSearch, IsNoRow, IsNoneBack, IsWhole};
 ghost use Rattle.renamer_c.specs.Placing.{IsNotIn};
 
+use crate::floor_with_places::FloorWithPlaces;
 use crate::places::Spot;
-use crate::reading_rows::{ReadRow, RowSlot, Unmade, Unread};
-use crate::row::{LEVELS, Row, group_size};
+use crate::reading_rows::{ReadRow, Unmade, Unread};
+use crate::row::{LEVELS, group_size};
 use crate::turns::Unturned;
-use std::sync::atomic::AtomicU64;
 use std::sync::atomic::Ordering::SeqCst;
 
 /// How many searches are in vain at most because lanes were handed back meanwhile: for centuries.
@@ -31,7 +31,7 @@ pub(crate) struct EmptyRow {
 /// How many places of a group were counted in a state: none.
 #[derive(Drop)]
 pub(crate) struct EmptyGroup {
-    first: usize,
+    first: Spot,
     size: usize,
     state: u64,
     number: u64,
@@ -39,11 +39,11 @@ pub(crate) struct EmptyGroup {
 
 impl EmptyRow {
     /// The row, if none was counted there.
-    pub(crate) fn of(slots: &[RowSlot], row: usize, state: u64) -> Option<EmptyRow>
-        requires { row < length slots.now }
+    pub(crate) fn of(floor: &FloorWithPlaces, row: usize, state: u64) -> Option<EmptyRow>
+        requires { row < 26 }
         ensures { IfSome result (IsEmptyRow row state) }
     {
-        let number = slots[row].counts.of(state).load(SeqCst);
+        let number = floor.slot(row).counts.of(state).load(SeqCst);
         if number == 0 {
             Some(EmptyRow { row, state, number })
         } else {
@@ -54,24 +54,27 @@ impl EmptyRow {
 
 impl EmptyGroup {
     /// The largest group that begins at this place, and where none was counted.
-    pub(crate) fn of(row: &Row, first: usize, state: u64) -> Option<EmptyGroup>
-        ensures { IfSome result (IsEmptyGroup first state) }
+    pub(crate) fn of(read: &ReadRow, first: usize, state: u64) -> Option<EmptyGroup>
+        requires few { length (arc_value read.now.shared.row).places.items ≤ 1099511627776 }
+        requires first { first < length (arc_value read.now.shared.row).places.items }
+        ensures { IfSome result (IsEmptyGroup (record { row = read.now.at; place = first }) state) }
     {
+        let row = read.row();
         let mut empty = None;
         for level in 1..LEVELS {
             let size = group_size(level);
             if first % size != 0 {
                 return empty;
             }
-            let number = match row.group(level, first) {
-                Some(counts) => counts.of(state).load(SeqCst),
-                None => return empty,
+            let Some(group) = row.group(level, first) else {
+                return empty;
             };
+            let number = row.count(group, state).load(SeqCst);
             if number != 0 {
                 return empty;
             }
             empty = Some(EmptyGroup {
-                first,
+                first: read.spot(first),
                 size,
                 state,
                 number,
@@ -108,16 +111,15 @@ pub(crate) enum NoneBack {
 
 impl Search {
     /// One that begins at the first place of all.
-    pub(crate) fn new(state: u64, slots: &[RowSlot], returns: &AtomicU64) -> Search
-        requires { length slots.now ≡ 26 }
+    pub(crate) fn new(state: u64, floor: &FloorWithPlaces) -> Search
         ensures { IsNewSearch state 0 result }
     {
         Search {
             state,
             on: Spot { row: 0, place: 0 },
             found: 0,
-            returns: returns.load(SeqCst),
-            unmade: Unmade::of(slots),
+            returns: floor.returns().load(SeqCst),
+            unmade: Unmade::of(floor),
             earlier: 0,
         }
     }
@@ -145,7 +147,7 @@ impl Search {
 
     /// Passes a place that was not in the state.
     pub(crate) fn pass(mut self, none: Unturned) -> Search
-        requires none { IsNotIn self.on.place self.state none }
+        requires none { IsNotIn self.on self.state none }
         requires few { self.on.place + 1 < 2 ^ 64 }
         ensures { result ≡ record self { on = record { row = self.on.row; place = self.on.place + 1 } } }
     {
@@ -169,7 +171,7 @@ impl Search {
 
     /// Passes a group of places.
     pub(crate) fn pass_group(mut self, none: EmptyGroup) -> Search
-        requires none { IsEmptyGroup self.on.place self.state none }
+        requires none { IsEmptyGroup self.on self.state none }
         requires few { self.on.place + none.size < 2 ^ 64 }
         ensures { result ≡ record self { on = record { row = self.on.row; place = self.on.place + none.size } } }
     {
@@ -222,14 +224,13 @@ impl Search {
     ///
     /// # Errors
     /// Else one that begins anew.
-    pub(crate) fn end(self, slots: &[RowSlot], returns: &AtomicU64) -> Result<NoneBack, Search>
-        requires slots { length slots.now ≡ 26 }
+    pub(crate) fn end(self, floor: &FloorWithPlaces) -> Result<NoneBack, Search>
         requires whole { IsWhole self × (self.found ≡ 0) }
         requires few { self.earlier < MOST_SEARCHES }
         ensures none { IfOk result IsNoneBack }
         ensures again { IfErr result (IsNewSearch self.state (self.earlier + 1)) }
     {
-        let now = returns.load(SeqCst);
+        let now = floor.returns().load(SeqCst);
         if now == self.returns {
             return Ok(NoneBack::Searched(self, now));
         }
@@ -238,7 +239,7 @@ impl Search {
             on: Spot { row: 0, place: 0 },
             found: 0,
             returns: now,
-            unmade: Unmade::of(slots),
+            unmade: Unmade::of(floor),
             earlier: self.earlier + 1,
         })
     }

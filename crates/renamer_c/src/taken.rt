@@ -1,22 +1,40 @@
 //! Lanes that are taken out of their places.
 
-ghost use Rattle.std.specs.Prelude.{◌≡◌, ◌<◌, IfErr, IfOk, IsSomeAnd, length};
-ghost use Rattle.renamer_c.specs.Handles.{back_held};
+ghost use Rattle.std.specs.Arc.{arc_value};
+ghost use Rattle.std.specs.Prelude.{◌≡◌, ◌≤◌, ◌<◌, ◌+◌, ◌^◌, Some, false, IfErr, IfOk, IsSomeAnd, IsTrue, length};
+ghost use Rattle.renamer_c.specs.Handles.{back_held, lane_held};
 ghost use Rattle.renamer_c.specs.Joining.{EndsSomewhere};
 ghost use Rattle.renamer_c.specs.Placing.{IsPlaceOf};
-ghost use Rattle.renamer_c.specs.Returns.{IsBack, IsJoined};
+ghost use Rattle.renamer_c.specs.Returns.{HasAny, IsBack, IsJoined};
 
-use crate::floor_with_places::{FloorWithPlaces, Handed};
+use crate::floor_with_places::{FloorShare, FloorWithPlaces, Handed};
 use crate::held::Held;
-use crate::kept::Kept;
+use crate::held_lane::HeldLane;
+use crate::kept::{Kept, unkeep};
 use crate::places::{Place, Returned};
 use cn_floor::{Floor, JoinFault, Lane};
 use std::mem::replace;
 
-/// A lane that was taken out of a place, and its box there. Only a join lets it go, or its place has it again.
+/// A lane that was taken out of a place, and its box there. Only a join lets it go, or its place has it again, or a
+/// handle.
 pub(crate) struct Taken {
     lane: Lane,
     boxed: Box<Kept>,
+}
+
+/// How many lanes with nothing were let go by one call.
+#[derive(Drop)]
+pub(crate) struct LetGo {
+    number: u64,
+}
+
+impl LetGo {
+    /// None yet.
+    pub(crate) fn none() -> LetGo
+        ensures { result.number ≡ 0 }
+    {
+        LetGo { number: 0 }
+    }
 }
 
 impl Taken {
@@ -51,6 +69,44 @@ impl Taken {
             Err((JoinFault::Memory, lane, other)) => Err((lane, Taken { lane: other, boxed })),
             Err((JoinFault::StillWalking, _, _)) => unreachable!(),
         }
+    }
+
+    /// Whether it has quota or grants.
+    pub(crate) fn has_any(&self) -> bool
+        ensures any { IsTrue result → HasAny self.now.lane }
+        ensures none { result ≡ false
+            → (self.now.lane.view.quota ≡ 0) × (length self.now.lane.view.grants ≡ 0) }
+    {
+        self.lane.quota() != 0 || !self.lane.grants().is_empty()
+    }
+
+    /// Lets it go, which has nothing, with its box.
+    pub(crate) fn let_go(self, gone: LetGo) -> LetGo
+        requires nothing { (self.lane.view.quota ≡ 0) × (length self.lane.view.grants ≡ 0) }
+        requires few { gone.number + 1 < 2 ^ 64 }
+        ensures { result.number ≡ gone.number + 1 }
+    {
+        let Taken {
+            lane: _lane,
+            boxed: _boxed,
+        } = self;
+        LetGo {
+            number: gone.number + 1,
+        }
+    }
+
+    /// The lane whole, in its box, with a share of its floor.
+    pub(crate) fn whole(self, floor: FloorShare, most: u64, place: Place) -> Box<Held>
+        requires own { arc_value floor ≡ Some self.lane.home }
+        requires most { most ≡ self.lane.home.start.quota }
+        requires place { IsPlaceOf self.lane.home place }
+        requires spare { self.lane.room ≤ self.lane.yard.spare }
+        ensures { lane_held result.value ≡ Some self.lane }
+    {
+        let Taken { lane, boxed } = self;
+        let mut boxed = unkeep(boxed);
+        *boxed = Held::Lane(HeldLane::of(floor, lane, most, place));
+        boxed
     }
 
     /// Puts it back into its place.

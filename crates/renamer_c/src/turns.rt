@@ -2,16 +2,23 @@
 //! one: so a function that has to return some is not proved unless it makes the steps. That the lines here make them no
 //! clause says, since none says what a shared word holds.
 
+ghost use Rattle.std.specs.Arc.{arc_value};
 ghost use Rattle.std.specs.Prelude.{◌≡◌, ◌≢◌, ◌<◌, IfErr, IfOk, length};
-ghost use Rattle.renamer_c.specs.Placing.{AreTagsOf, IsFound, IsNotIn, IsPut};
+ghost use Rattle.renamer_c.specs.Placing.{IsFound, IsNotIn, IsPlaceOf, IsPut, IsRowOf, IsSharedRowOf};
 ghost use Rattle.renamer_c.specs.Returns.{IsBack};
+ghost use Rattle.renamer_c.specs.declared.places.Spot.{Spot};
 
 use crate::held::Held;
 use crate::kept::Kept;
-use crate::places::Returned;
+use crate::places::{Place, Returned, Spot};
+use crate::reading_rows::ReadRow;
+use crate::row::Row;
+use crate::taken::Taken;
 use cn_floor::{Floor, Lane};
-use counted_slot::{Claim, Counted, MARKED, PRESENT, TAKEN};
+use counted_slot::{Claim, Counted, FREE, MARKED, PRESENT, TAKEN};
 use std::snapshot::Snapshot;
+use std::sync::atomic::AtomicU64;
+use std::sync::atomic::Ordering::SeqCst;
 
 /// A place is free, a lane's own (`MARKED`), or has a lane that was handed back (`PRESENT`). Only the owner of a place
 /// turns it while it is its own: so whoever stops in the midst of a call has but one lane there, which is not wholly
@@ -21,7 +28,7 @@ pub(crate) type OnePlace = Counted<Option<Returned>>;
 /// Why a place was not turned: its word when it was looked at, or was to be turned.
 #[derive(Drop)]
 pub(crate) struct Unturned {
-    at: usize,
+    spot: Spot,
     word: u64,
 }
 
@@ -32,59 +39,117 @@ pub(crate) struct Put {
     word: u64,
 }
 
+/// A hand-back has ended: how many had ended before.
+#[derive(Drop)]
+pub(crate) struct Ended {
+    before: u64,
+}
+
+impl Ended {
+    /// Counts a hand-back that put its lane into its place.
+    pub(crate) fn after(_put: &Put, returns: &AtomicU64) -> Ended {
+        Ended {
+            before: returns.fetch_add(1, SeqCst),
+        }
+    }
+}
+
+/// What was found at a place in a state, and is its finder's own. It is nothing, or a lane, and nothing else lets it go.
+pub(crate) struct Found {
+    state: u64,
+    there: Option<Returned>,
+}
+
+impl Found {
+    /// Nothing, at a place that was free.
+    pub(crate) fn nothing(self)
+        requires { self.state ≡ 0 }
+    {
+        let Found {
+            state: _state,
+            there: _there,
+        } = self;
+    }
+
+    /// The lane that was handed back to its place.
+    pub(crate) fn lane(self, floor: &Floor<'static>) -> Taken
+        requires { IsFound floor.now 1 self }
+        ensures { IsBack floor.now result.lane }
+    {
+        let Found {
+            state: _state,
+            there,
+        } = self;
+        match there {
+            Some(returned) => Taken::of(returned, floor),
+            None => unreachable!(),
+        }
+    }
+}
+
 /// Turns a place of a row from this state, by a load and a compare-exchange, for who may change it then.
 ///
 /// # Errors
 /// If it was in another state, or another thread turned it then.
 fn turn_place<'a>(
-    row: &'a [OnePlace],
-    at: usize,
+    row: &'a Row,
+    spot: Spot,
     state: u64,
     floor: &Floor<'static>,
 ) -> Result<Claim<'a, Option<Returned>>, Unturned>
-    requires row { AreTagsOf floor.now row.now }
-    requires at { at < length row.now }
+    requires row { IsRowOf floor.now row.now }
+    requires place { spot.place < length row.now.places.items }
     requires state { state < 3 }
     ensures claim { IfOk result (λ claim. (claim.tag ≡ floor.now) × (claim.right ≡ 2)) }
-    ensures err { IfErr result (IsNotIn at state) }
+    ensures err { IfErr result (IsNotIn spot state) }
 {
     // Only the contract reads it: whose lanes stand here.
     let _ = floor;
-    let word = row[at].load();
+    let place = &row.places[spot.place];
+    let word = place.load();
     if word != state {
-        return Err(Unturned { at, word });
+        return Err(Unturned { spot, word });
     }
-    let (word, claim) = row[at].turn(state, TAKEN);
+    let (word, claim) = place.turn(state, TAKEN);
     if word != state {
         claim.done();
-        return Err(Unturned { at, word });
+        return Err(Unturned { spot, word });
     }
     Ok(claim)
 }
 
-/// Takes what stands at a place in this state, and leaves the place in another.
+/// Takes what stands at a place in this state, which is its taker's own then.
 ///
 /// # Errors
 /// If it was in another state, or another thread turned it then.
 pub(crate) fn take_from(
-    row: &[OnePlace],
-    at: usize,
+    row: &ReadRow,
+    place: usize,
     state: u64,
-    left: u64,
     floor: &Floor<'static>,
-) -> Result<Option<Returned>, Unturned>
-    requires row { AreTagsOf floor.now row.now }
-    requires at { at < length row.now }
-    requires states { (state < 3) × (left < 3) × (left ≢ 1) }
-    ensures there { IfOk result (IsFound floor.now state) }
-    ensures err { IfErr result (IsNotIn at state) }
+) -> Result<Found, Unturned>
+    requires row { IsSharedRowOf floor.now row.now.shared }
+    requires place { place < length (arc_value row.now.shared.row).places.items }
+    requires state { state < 2 }
+    ensures found { IfOk result (IsFound floor.now state) }
+    ensures err { IfErr result (IsNotIn (record { row = row.now.at; place = place }) state) }
 {
-    match turn_place(row, at, state, floor) {
-        Ok(claim) => match claim.put(None, left) {
-            None if state == PRESENT => Err(Unturned { at, word: left }),
-            there => Ok(there),
+    let spot = row.spot(place);
+    match turn_place(row.row(), spot, state, floor) {
+        Ok(claim) => match claim.put(None, MARKED) {
+            None if state == PRESENT => Err(Unturned { spot, word: MARKED }),
+            there => Ok(Found { state, there }),
         },
         Err(other) => Err(other),
+    }
+}
+
+/// Frees a place that is its owner's own.
+pub(crate) fn free_place(place: &Place, floor: &Floor<'static>)
+    requires { IsPlaceOf floor.now place.now }
+{
+    if let Ok(claim) = turn_place(place.row(), place.spot(), MARKED, floor) {
+        let _ = claim.put(None, FREE);
     }
 }
 
@@ -93,19 +158,17 @@ pub(crate) fn take_from(
 /// # Errors
 /// The lane, if the place was not its own.
 pub(crate) fn put_at(
-    row: &[OnePlace],
-    at: usize,
+    place: &Place,
     floor: &Floor<'static>,
     lane: Lane,
     mut boxed: Box<Kept>,
 ) -> Result<Put, (Unturned, Lane)>
-    requires row { AreTagsOf floor.now row.now }
-    requires at { at < length row.now }
+    requires place { IsPlaceOf floor.now place.now }
     requires lane { IsBack floor.now lane }
     ensures ok { IfOk result (IsPut lane) }
-    ensures err { IfErr result (λ r. IsNotIn at 2 r.0 × (r.1 ≡ lane)) }
+    ensures err { IfErr result (λ r. IsNotIn place.now.spot 2 r.0 × (r.1 ≡ lane)) }
 {
-    let claim = match turn_place(row, at, MARKED, floor) {
+    let claim = match turn_place(place.row(), place.spot(), MARKED, floor) {
         Ok(claim) => claim,
         Err(other) => return Err((other, lane)),
     };

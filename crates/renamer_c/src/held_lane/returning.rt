@@ -1,10 +1,11 @@
 //! Lanes that are handed back, and taken into others.
 
 ghost use Rattle.std.specs.Prelude.{◌≡◌, ◌<◌, Some, IfErr, IfOk, length};
-ghost use Rattle.renamer_c.specs.Joining.{AreAllIn, EndsSomewhere, StopsWith, refusal_of};
+ghost use Rattle.renamer_c.specs.Handles.{lane_held};
+ghost use Rattle.renamer_c.specs.Joining.{AreAllIn, EndsSomewhere, StopsTake, StopsWith, refusal_of, refusal_of_take};
 ghost use Rattle.renamer_c.specs.Looking.{IsTakenOf};
-ghost use Rattle.renamer_c.specs.Refusals.{NotHandedBack, NotJoined, NotJoinedAll};
-ghost use Rattle.renamer_c.specs.Returns.{IsBack, IsJoined, Joins, JoinsAll};
+ghost use Rattle.renamer_c.specs.Refusals.{NotHandedBack, NotJoined, NotJoinedAll, NotTakenBack};
+ghost use Rattle.renamer_c.specs.Returns.{IsBack, IsJoined, Joins, JoinsAll, TakesBack};
 
 use super::HeldLane;
 use crate::floor_with_places::{Handed, floor_of, with_places};
@@ -13,7 +14,8 @@ use crate::kept::keep;
 use crate::places::Place;
 use crate::refusal::Refusal;
 use crate::searches::{MOST_JOINS, NoneBack, Search};
-use crate::taken::Taken;
+use crate::shares::{Full, another_share};
+use crate::taken::{LetGo, Taken};
 use std::sync::Arc;
 
 /// Why a lane takes in no other.
@@ -36,6 +38,33 @@ impl JoinStop {
             JoinStop::Nothing => Refusal::Nothing,
             JoinStop::NothingBack(_) => Refusal::NothingBack,
             JoinStop::Memory(_) => Refusal::Memory,
+        }
+    }
+}
+
+/// Why no lane comes whole.
+#[derive(Drop)]
+pub(crate) enum TakeStop {
+    /// There is no lane whose floor is asked.
+    Nothing,
+    /// No lane was back.
+    NothingBack(NoneBack),
+    /// The floor has as many owners as it can have.
+    Full(Full),
+    /// Lanes with nothing were found for centuries.
+    Late(LetGo),
+}
+
+impl TakeStop {
+    /// The refusal.
+    pub(crate) fn refusal(&self) -> Refusal
+        ensures { result ≡ refusal_of_take self.now }
+    {
+        match self {
+            TakeStop::Nothing => Refusal::Nothing,
+            TakeStop::NothingBack(_) | TakeStop::Full(_) | TakeStop::Late(_) => {
+                Refusal::NothingBack
+            }
         }
     }
 }
@@ -119,6 +148,36 @@ impl HeldLane {
             },
             Err(none) => Err((self, JoinStop::NothingBack(none))),
         }
+    }
+
+    /// Takes a lane of the floor that was handed back, whole, in its box: by a share of the floor more, and no memory.
+    /// Those with neither quota nor grants that it finds are let go.
+    ///
+    /// # Errors
+    /// If none was back at one moment, or the floor has as many owners as it can have.
+    pub(crate) fn take_back(&self) -> Result<Box<Held>, TakeStop>
+        ensures ok { IfOk result (λ b. TakesBack (Some self.now) (lane_held b.value)) }
+        ensures stop { IfErr result StopsTake }
+        ensures refused { IfErr result (λ s. NotTakenBack (Some self.now) (refusal_of_take s)) }
+    {
+        let floor = match another_share(&self.floor) {
+            Ok(floor) => floor,
+            Err(full) => return Err(TakeStop::Full(full)),
+        };
+        let mut gone = LetGo::none();
+        for met in 0..MOST_JOINS {
+            match with_places(&self.floor).take_back() {
+                Ok((taken, place)) => {
+                    if taken.has_any() {
+                        return Ok(taken.whole(floor, self.most, place));
+                    }
+                    gone = taken.let_go(gone);
+                    with_places(&self.floor).free(place);
+                }
+                Err(none) => return Err(TakeStop::NothingBack(none)),
+            }
+        }
+        Err(TakeStop::Late(gone))
     }
 
     /// Takes in the lanes of the floor that were handed back, each that one search through all places finds. Returns
