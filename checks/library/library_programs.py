@@ -39,6 +39,7 @@ WORDS = {
     "lanes_at_once.c": {None: ["200001"], "others": ["2000"]},
     "one_for_each.c": {None: ["20000"], "others": ["200"]},
     "join_all_ends.c": {None: ["500"], "others": ["20"]},
+    "slots_back.c": {None: ["10000"], "others": ["200"]},
 }
 VALGRIND = ["valgrind", "-q", "--leak-check=full", "--error-exitcode=9"]
 # So long may a command run, which takes a minute or two if nothing else runs.
@@ -88,6 +89,7 @@ PROGRAMS = (
     Program(C / "examples" / "lanes.cpp", prints="3000 clients have the names 0 to 2999\n"),
     Program(C / "examples" / "workers.c", prints=WORKERS),
     Program(C / "examples" / "workers.cpp", prints=WORKERS),
+    Program(C / "examples" / "slots.c", prints="4 threads counted to 4000 in the rows of 8 slots\n"),
     Program(C / "tests" / "names.c"),
     Program(C / "tests" / "statuses.c"),
     Program(C / "tests" / "listed.c"),
@@ -105,6 +107,7 @@ PROGRAMS = (
     Program(C / "tests" / "refilled.c"),
     Program(C / "tests" / "next_floor.c"),
     Program(C / "tests" / "join_all_ends.c"),
+    Program(C / "tests" / "slots_back.c"),
     Program(C / "tests" / "objects.cpp"),
     FUZZ,
 )
