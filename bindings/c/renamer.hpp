@@ -1,6 +1,6 @@
 /*
- * renamer for C++11: lanes, closed floors, slots and takers as objects that free themselves. Header only, over renamer.h,
- * which says what each call does; link the same archive.
+ * renamer for C++11: lanes, closed floors, slots and takers as objects that free themselves. Header only, over
+ * renamer.h, which says what each call does; link the same archive.
  *
  *     renamer::lane lane;
  *     std::uint64_t name;
@@ -245,7 +245,7 @@ class slot_pool {
         return last;
     }
 
-    /* Takes a slot, from any thread. A slot that the object had is freed then. If all are taken: status::nothing_back. */
+    /* Takes a slot, from any thread. One that the object had is freed then. If all are taken: status::nothing_back. */
     status take(slot &taken) const noexcept { return first.take_back(taken.has); }
 
   private:

@@ -1,7 +1,8 @@
 /*
- * Slots that come back. A free slot is a lane with one name that was handed back: who takes it back has the slot, and who
- * hands it back frees it. There is no lock, and no memory is taken for it. No two threads have one slot, and a thread that
- * is stopped keeps no slot from others but its own. Here threads count, each time in the row of whichever slot it got.
+ * Slots that come back. A free slot is a lane with one name that was handed back: who takes it back has the slot, and
+ * who hands it back frees it. There is no lock, and no memory is taken for it. No two threads have one slot, and a
+ * thread that is stopped keeps no slot from others but its own. Here threads count, each time in the row of the slot
+ * that they got.
  */
 #include "renamer.h"
 #include <pthread.h>

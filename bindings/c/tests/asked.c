@@ -10,7 +10,8 @@
 #include <string.h>
 #include <sys/mman.h>
 
-enum { BYTES = 1 << 24, HEAD = 16, NAMED = 60, INSIDE = 4, WIDTH = 4, THREADS = 4, ROUNDS = 1000, SLOTS = 5, PAGE = 1 << 16 };
+enum { BYTES = 1 << 24, PAGE = 1 << 16, HEAD = 16 };
+enum { NAMED = 60, INSIDE = 4, WIDTH = 4, SLOTS = 5, THREADS = 4, ROUNDS = 1000 };
 
 /* The memory that the library takes, one block after another, each behind its size, and in pages of its own if they are
    apart. None is used again. */

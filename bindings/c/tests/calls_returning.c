@@ -57,8 +57,8 @@ static int has_any(const struct lane *lane) {
     return lane->quota || lane->granted;
 }
 
-/* Frees the lanes with nothing that are back: a call that took a lane back may have met them. Returns whether there were
-   some. */
+/* Frees the lanes with nothing that are back: a call that took a lane back may have met them. Returns whether there
+   were some. */
 static int forget_empty(struct floor *floor) {
     struct lane **place = &floor->back, *lane;
     int some = 0;

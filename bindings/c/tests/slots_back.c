@@ -1,8 +1,9 @@
 /*
- * Slots that come back: lanes with one grant each, whose names are the numbers of the slots. Threads take them back by
- * one lane that all share, and hand them back. No slot ever has two owners. With a slot for each thread no thread is ever
- * refused; with fewer, only while each slot was another's at some moment of the call. In the end all slots are there.
- * Other threads split off lanes with nothing and free them: none of these comes in place of a slot.
+ * Slots that come back: lanes with one grant each, whose names are the numbers of the slots. How often each thread takes
+ * one is the argument. All take them back by one lane that they share, and hand them back. No slot ever has two owners.
+ * With a slot for each thread no thread is ever refused, and with fewer only if each slot could be another's at some
+ * moment of the call. In the end all slots are there. Other threads split off lanes with nothing and free them: none of
+ * these comes in place of a slot.
  */
 #include "judge.h"
 #include <pthread.h>

@@ -253,8 +253,8 @@ static void many_back(void) {
     renamer_free_quiet(&quiet);
 }
 
-/* A lane comes back whole, and what was in its handle is handed back then. A refused call leaves the handle as it was; a
-   lane with nothing does not come. */
+/* A lane comes back whole, and what was in its handle is handed back then. A refused call leaves the handle as it was,
+   and a lane with nothing does not come. */
 static void taken_back(void) {
     renamer_lane lane = RENAMER_NO_LANE_YET, other = RENAMER_NO_LANE_YET, back = RENAMER_NO_LANE_YET;
     struct seen before, asked;
