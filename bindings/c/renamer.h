@@ -4,8 +4,9 @@
  * A floor is a counting network on atomic words. Threads name clients on it at once, without a lock: each client gets a
  * name, and no two clients of a floor get the same. Each name is below the number of clients that came in, and when
  * nobody is inside the names of k clients are 0 to k-1. A floor is for one epoch: it lets in at most
- * RENAMER_MOST_CLIENTS, and names are not given back one by one, but all at once by the next floor. If a program needs
- * names only, and need not ask who has which, it takes them: renamer_open_takes opens a floor whose names do not end.
+ * RENAMER_MOST_CLIENTS, and names are not given back one by one, but all at once by the next floor; only slots come back
+ * one by one, as renamer_take_back says. If a program needs names only, and need not ask who has which, it takes them:
+ * renamer_open_takes opens a floor whose names do not end.
  *
  *     renamer_lane lane = RENAMER_NO_LANE_YET;
  *     uint64_t name;
@@ -297,7 +298,8 @@ RENAMER_CALL uint32_t renamer_grant_count(const renamer_lane *lane, uint64_t *co
 RENAMER_LIST_CALL uint32_t renamer_grants(const renamer_lane *lane, uint64_t first, renamer_grant *grants, size_t size);
 
 /* Hands the lane back to its floor, from any thread: its quota, its grants and all that it did. The lane is none then,
-   and another lane of the floor may take it in by renamer_join. Any number of lanes may be back.
+   and another lane of the floor may take it in by renamer_join, or renamer_take_back gives it whole. Any number of
+   lanes may be back.
 
    A hand-back takes no memory and frees none: it is at most a dozen atomic steps, whatever other threads do and
    wherever they are stopped. The memory of the lane and its handle is freed by the call that takes the lane in, or with

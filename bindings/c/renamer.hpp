@@ -1,6 +1,6 @@
 /*
- * renamer for C++11: lanes, closed floors and takers as objects that free themselves. Header only, over renamer.h, which says
- * what each call does; link the same archive.
+ * renamer for C++11: lanes, closed floors, slots and takers as objects that free themselves. Header only, over
+ * renamer.h, which says what each call does; link the same archive.
  *
  *     renamer::lane lane;
  *     std::uint64_t name;
@@ -14,7 +14,7 @@
  *
  * A call that writes a list takes a pointer and a count, and writes into the array that is there; the pointer may be
  * null if the count is 0. Or it takes a std::vector, of which it makes a new one at each call. Only such calls throw, if
- * a vector gets no memory.
+ * a vector gets no memory, and slot_pool::open, which has one of its own.
  */
 #ifndef RENAMER_HPP
 #define RENAMER_HPP
@@ -23,6 +23,7 @@
 
 #include <cstddef>
 #include <cstdint>
+#include <utility>
 #include <vector>
 
 namespace renamer {
@@ -209,6 +210,46 @@ class lane : public owner<renamer_lane, renamer_free> {
     status join_all() noexcept { return status(renamer_join_all(&handle)); }
 
     status close(quiet &closed) noexcept { return status(renamer_close(&handle, &closed.handle)); }
+};
+
+/* A slot that is taken, or none. At the object's end it is free again. */
+class slot {
+  public:
+    /* Its number, which is below that of the slots. If it is none: status::none. */
+    status number(std::uint64_t &number) const noexcept {
+        grant own = grant();
+        const status asked = has.grants(0, &own, 1);
+        if (asked == status::done) number = own.name;
+        return asked;
+    }
+    void free() noexcept { has = lane(); }
+
+  private:
+    friend class slot_pool;
+    lane has;
+};
+
+/* Slots that come back, each with one owner at most. A slot may outlive its pool. */
+class slot_pool {
+  public:
+    /* Makes so many slots, at most RENAMER_MOST_CLIENTS, which are free. */
+    status open(std::uint64_t count) {
+        lane all;
+        std::vector<lane> made;
+        std::uint64_t name = 0;
+        status last = all.open(kind::tree, 2, count);
+        if (last == status::done) made.resize(static_cast<std::size_t>(count));
+        for (lane &each : made)
+            if (last == status::done && (last = all.split(1, each)) == status::done) last = each.name(0, 0, name);
+        if (last == status::done) first = std::move(all);
+        return last;
+    }
+
+    /* Takes a slot, from any thread. One that the object had is freed then. If all are taken: status::nothing_back. */
+    status take(slot &taken) const noexcept { return first.take_back(taken.has); }
+
+  private:
+    lane first;
 };
 
 /* A taker of a floor whose names are only taken: a thread's own part of it. */

@@ -133,6 +133,13 @@ func (lane *Lane) HandBack() error { return done(C.renamer_hand_back(&lane.handl
 // Join takes in one lane that was handed back.
 func (lane *Lane) Join() error { return done(C.renamer_join(&lane.handle)) }
 
+// TakeBack takes a lane of the floor that was handed back, whole. Its own lane is only asked, so goroutines may share it.
+func (lane *Lane) TakeBack() (*Lane, error) {
+	back := new(Lane)
+	err := done(C.renamer_take_back(&lane.handle, &back.handle))
+	return back, err
+}
+
 // JoinAll takes in all lanes that were handed back.
 func (lane *Lane) JoinAll() error { return done(C.renamer_join_all(&lane.handle)) }
 

@@ -25,7 +25,7 @@ ADD = {f"renamer_{name}"
        for name in ("enter", "name", "name_list", "name_many", "step", "sweep", "take", "take_many")}
 BEGIN_OR_END = {f"renamer_{name}" for name in ("close", "free", "free_quiet", "free_taker", "hand_back", "join", "join_all",
                                                "open", "open_after", "open_apart", "open_takes", "split",
-                                               "split_taker")}
+                                               "split_taker", "take_back")}
 SECTION = re.compile(r"\] (\S+) +\w+ +\w+ \w+ (\w+) \w+ +\w*W\w* ")
 FUNCTION = re.compile(r"[0-9a-f]+ <(\S+)>:$")
 ADDS = re.compile(r"\tlock (?:xadd|add|inc)")

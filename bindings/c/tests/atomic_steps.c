@@ -2,7 +2,8 @@
  * How many atomic instructions a call makes, wherever their code lies: in the library, in the archive's C or in the C
  * library. A name and a take make one at the entry, one at each balancer on the way and one at the exit; a list of 64 by
  * one entry makes one at the entry, and then one for each part of it that stands on a wire, which is halved at each
- * balancer. Calls that ask make none, and a hand-back at most a dozen. So nobody counts, locks or adds to another word.
+ * balancer. Calls that ask make none, a hand-back at most a dozen, and one that takes a lane back 9 at most, in the way
+ * of a thread that meets no other. So nobody counts, locks or adds to another word.
  *
  * They are counted by the processor's trap for single steps: for Linux on x86-64.
  */
@@ -13,7 +14,7 @@
 #include <string.h>
 #include <unistd.h>
 
-enum { LIST = 64, QUOTA = 1000, ROOM = 400, MOST_AT_A_HAND_BACK = 12, MANY = 1000 };
+enum { LIST = 64, QUOTA = 1000, ROOM = 400, MOST_AT_A_HAND_BACK = 12, MOST_AT_A_TAKE_BACK = 9, MANY = 1000 };
 
 static volatile long counted;
 
@@ -108,17 +109,21 @@ static void ask(const renamer_lane *lane, const renamer_taker *taker) {
     COUNTS(renamer_takes_entered(taker, &number), 0);
 }
 
-/* Hands a lane back while so many others are out. */
+/* Hands a lane back, and takes it back, while so many others are out. */
 static void hand_back(renamer_lane *lane, int others) {
     static renamer_lane out[MANY];
     renamer_lane back = RENAMER_NO_LANE_YET;
     for (int i = 0; i < others; i++)
         CHECK(renamer_split(lane, 0, &out[i]) == RENAMER_DONE);
-    CHECK(renamer_split(lane, 0, &back) == RENAMER_DONE);
+    CHECK(renamer_split(lane, 1, &back) == RENAMER_DONE);
     COUNT(renamer_hand_back(&back));
     CHECK(counted <= MOST_AT_A_HAND_BACK);
+    COUNT(renamer_take_back(lane, &back));
+    CHECK(counted <= MOST_AT_A_TAKE_BACK);
+    renamer_free(&back);
     for (int i = 0; i < others; i++)
         renamer_free(&out[i]);
+    CHECK(renamer_join_all(lane) == RENAMER_DONE);
 }
 
 static void count_on(uint32_t kind, int level) {

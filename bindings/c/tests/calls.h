@@ -40,6 +40,7 @@ enum { LANES = 32, QUIETS = 8, STATUSES = RENAMER_LANES_THERE + 1, UNSET = 0xa5 
     X(grants, STATUS(NONE) | STATUS(SIZE))                                                                             \
     X(hand_back, STATUS(NONE) | STATUS(STILL_WALKING))                                                                 \
     X(join, STATUS(NONE) | STATUS(NOTHING_BACK) | STATUS(MEMORY))                                                      \
+    X(take_back, STATUS(NONE) | STATUS(NOTHING_BACK))                                                                  \
     X(join_all, STATUS(NONE) | STATUS(MEMORY))                                                                         \
     X(close, STATUS(NONE) | STATUS(STILL_WALKING) | STATUS(LANES_MISSING) | STATUS(MEMORY) | STATUS(LANES_THERE))      \
     X(quiet_exits, STATUS(NONE))                                                                                       \
@@ -110,6 +111,9 @@ void show(const char *form, ...);
 void *unset_array(size_t count, size_t size);
 int is_unset(const void *array, size_t from, size_t count, size_t size);
 
+/* Puts another lane into a handle. What was there is freed: its own growth can be refused. */
+void put_lane(struct handle *handle, struct lane *lane);
+
 /* Judges what a lane says of itself, and all its grants if that is asked; and now and then, after a refused call. */
 void judge_lane(struct handle *handle, int with_grants);
 void judge_refused(struct handle *handle);
@@ -122,6 +126,7 @@ void call_split(void);
 void call_reserve(void);
 void call_hand_back(void);
 void call_join(void);
+void call_take_back(void);
 void call_join_all(void);
 void call_close(void);
 void call_free(void);

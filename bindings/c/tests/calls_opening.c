@@ -1,4 +1,4 @@
-/* The calls that open floors, split, hand back and join lanes, close floors, and free. */
+/* The calls that open floors, split and hand back lanes, close floors, and free. */
 #include "calls.h"
 
 enum { MOST_ROOM = 1048576 };
@@ -7,8 +7,7 @@ static uint64_t some_quota(void) {
     return drawn(8) ? drawn(40) : drawn(4) ? drawn(2000) : odd_number();
 }
 
-/* Puts another lane into a handle. What was there is freed: its own growth can be refused. */
-static void put(struct handle *handle, struct lane *lane) {
+void put_lane(struct handle *handle, struct lane *lane) {
     if (handle->model)
         lane_let_go(handle->model);
     handle->model = lane;
@@ -34,7 +33,7 @@ void call_open(void) {
     status = end_call((is_apart ? renamer_open_apart : renamer_open)(&handle->lane, kind, width, quota));
     show("kind %" PRIu32 ", width %" PRIu32 ", quota %" PRIu64, kind, width, quota);
     if (is_done(status, wanted, 0))
-        put(handle, floor_open(network, NULL, quota));
+        put_lane(handle, floor_open(network, NULL, quota));
     else
         judge_refused(handle);
 }
@@ -51,7 +50,7 @@ void call_open_after(void) {
     status = end_call(renamer_open_after(&handle->lane, &floor->quiet, quota));
     show("closed floor %d, quota %" PRIu64, (int)(floor - closed), quota);
     if (is_done(status, wanted, 0))
-        put(handle, floor_open(quiet->network, quiet, quota));
+        put_lane(handle, floor_open(quiet->network, quiet, quota));
     else
         judge_refused(handle);
 }
@@ -76,7 +75,7 @@ static void split(struct handle *handle, uint64_t quota, struct handle *other) {
     status = end_call(renamer_split(&handle->lane, quota, &other->lane));
     show("quota %" PRIu64 ", into %d", quota, (int)(other - handles));
     if (is_done(status, wanted, 0)) {
-        put(other, lane_split(lane, quota));
+        put_lane(other, lane_split(lane, quota));
     } else {
         judge_refused(handle);
         judge_refused(other);
@@ -135,57 +134,6 @@ void call_many_back(void) {
             hand_back(other);
         free_lane(other);
     }
-}
-
-/* ---- joins */
-
-/* The lane took one in that was handed back, or all: with the quota and the grants that it has more now. */
-static void judge_joined(struct handle *handle, int (*join)(struct lane *, uint64_t, const renamer_grant *, size_t)) {
-    struct lane *lane = handle->model;
-    uint64_t quota, count, room = lane->room;
-    long asked = run.asked;
-    renamer_grant *grants;
-    CHECK(MADE_WITH_MEMORY(quota, (&handle->lane, &quota)) == RENAMER_DONE && quota >= lane->quota);
-    CHECK(MADE_WITH_MEMORY(grant_count, (&handle->lane, &count)) == RENAMER_DONE && count >= lane->granted);
-    count -= lane->granted;
-    grants = unset_array(count, sizeof *grants);
-    CHECK(MADE_WITH_MEMORY(grants, (&handle->lane, lane->granted, grants, count)) == RENAMER_DONE);
-    CHECK(join(lane, quota - lane->quota, grants, count));
-    CHECK(room < count || asked == 0);
-    judge_lane(handle, count < 64);
-    free(grants);
-}
-
-void call_join(void) {
-    struct handle *handle = some_handle();
-    struct lane *lane = handle->model;
-    uint32_t wanted = RENAMER_NONE, status = MADE(join, (&handle->lane));
-    show("");
-    if (lane)
-        wanted = lane->floor->back ? RENAMER_DONE : RENAMER_NOTHING_BACK;
-    if (is_done(status, wanted, 0)) {
-        judge_joined(handle, lane_join);
-        return;
-    }
-    judge_refused(handle);
-    if (status != RENAMER_MEMORY)
-        return;
-    /* What was not taken in for want of memory is there for the next call. */
-    CHECK(MADE_WITH_MEMORY(join, (&handle->lane)) == RENAMER_DONE);
-    judge_joined(handle, lane_join);
-}
-
-void call_join_all(void) {
-    struct handle *handle = some_handle();
-    uint32_t status = MADE(join_all, (&handle->lane));
-    show("");
-    if (!is_done(status, handle->model ? RENAMER_DONE : RENAMER_NONE, 0)) {
-        if (!handle->model)
-            return;
-        /* Some may be taken in by now: the next call takes the rest. */
-        CHECK(MADE_WITH_MEMORY(join_all, (&handle->lane)) == RENAMER_DONE);
-    }
-    judge_joined(handle, lane_join_all);
 }
 
 /* ---- closes */

@@ -131,7 +131,8 @@ static const struct {
     {call_name, 60},      {call_enter, 40},  {call_name_many, 16},   {call_step, 40},       {call_sweep, 24},
     {call_name_list, 12},
     {call_let_out, 40},   {call_number, 17}, {call_entered, 12},     {call_grants, 8},      {call_all_of_lane, 2},
-    {call_hand_back, 20}, {call_join, 16},   {call_join_all, 5},     {call_many_back, 1}, {call_close, 14},
+    {call_hand_back, 20}, {call_join, 16},   {call_take_back, 14},   {call_join_all, 5},    {call_many_back, 1},
+    {call_close, 14},
     {call_counts, 5},     {call_holders, 5}, {call_quiet_number, 4}, {call_free_quiet, 2},  {call_free, 6},
     {call_take, 30},      {call_take_many, 12}, {call_takes_entered, 8}, {call_open_takes, 6}, {call_split_taker, 10},
     {call_chain_of_takers, 1}, {call_free_taker, 3}};

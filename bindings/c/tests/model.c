@@ -118,7 +118,7 @@ static struct lane *new_lane(struct floor *floor, uint64_t quota) {
     return lane;
 }
 
-static void free_lane(struct lane *lane) {
+void lane_free(struct lane *lane) {
     free(lane->tokens);
     free(lane->grants);
     free(lane);
@@ -208,7 +208,7 @@ static void free_floor(struct floor *floor) {
     while (floor->back) {
         struct lane *lane = floor->back;
         floor->back = lane->next;
-        free_lane(lane);
+        lane_free(lane);
     }
     free(floor->passed);
     free(floor->visited);
@@ -222,7 +222,7 @@ void lane_let_go(struct lane *lane) {
         lane->next = floor->back;
         floor->back = lane;
     } else
-        free_lane(lane);
+        lane_free(lane);
     if (!floor->lanes)
         free_floor(floor);
 }
@@ -238,7 +238,7 @@ int lane_join(struct lane *lane, uint64_t quota, const renamer_grant *grants, si
         lane->room -= lane->room < count ? lane->room : count;
         for (size_t at = 0; at < count; at++)
             take_grant(lane, &grants[at]);
-        free_lane(other);
+        lane_free(other);
         return 1;
     }
     return 0;
@@ -285,7 +285,7 @@ struct quiet *lane_close(struct lane *lane) {
     for (uint64_t at = 0; at < floor->network->width; at++)
         CHECK(quiet->visited[at] == share(quiet->before + quiet->clients, floor->network->width, at));
     free(is_named);
-    free_lane(lane);
+    lane_free(lane);
     free_floor(floor);
     return quiet;
 }

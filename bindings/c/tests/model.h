@@ -70,6 +70,7 @@ renamer_moved lane_step(struct lane *lane, size_t at);
 renamer_swept lane_sweep(struct lane *lane, uint64_t wire);
 /* Frees a lane with its handle: it is handed back, unless it is the last or has clients inside. */
 void lane_let_go(struct lane *lane);
+void lane_free(struct lane *lane);
 /* Takes in a lane that was handed back with such a quota and such grants, if one was. */
 int lane_join(struct lane *lane, uint64_t quota, const renamer_grant *grants, size_t count);
 /* The same of all lanes that are back, in any order. */

@@ -141,8 +141,32 @@ static void take() {
     CHECK(asked.entered(name) == status::done && name == 8);
 }
 
+// Slots that move, that are freed at their end, and that outlive their pool.
+static void take_slots() {
+    renamer::slot_pool pool;
+    renamer::slot first, second;
+    std::uint64_t number = 99;
+    CHECK(pool.take(first) == status::none && first.number(number) == status::none && number == 99);
+    CHECK(pool.open(RENAMER_MOST_CLIENTS + 1) == status::quota && pool.open(2) == status::done);
+    CHECK(pool.take(first) == status::done && pool.take(second) == status::done);
+    bool seen[2] = {false, false};
+    for (const renamer::slot *slot : {&first, &second})
+        CHECK(slot->number(number) == status::done && number < 2 && !seen[number] && (seen[number] = true));
+    renamer::slot third;
+    CHECK(pool.take(third) == status::nothing_back && third.number(number) == status::none);
+    third = std::move(second);
+    CHECK(second.number(number) == status::none && pool.take(second) == status::nothing_back);
+    { const renamer::slot ended = std::move(third); }
+    CHECK(pool.take(second) == status::done && pool.take(third) == status::nothing_back);
+    first.free();
+    CHECK(first.number(number) == status::none && pool.take(second) == status::done);
+    CHECK(pool.take(first) == status::done && pool.open(1) == status::done && pool.take(third) == status::done);
+    CHECK(third.number(number) == status::done && number == 0 && first.number(number) == status::done);
+}
+
 int main() {
     refused();
     close_and_go_on();
+    take_slots();
     take();
 }

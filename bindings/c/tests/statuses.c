@@ -32,6 +32,7 @@ static void none(renamer_lane *lane, renamer_quiet *quiet) {
     CHECK(renamer_lowest(lane, &number) == RENAMER_NONE);
     CHECK(renamer_hand_back(lane) == RENAMER_NONE);
     CHECK(renamer_join(lane) == RENAMER_NONE && renamer_join_all(lane) == RENAMER_NONE);
+    CHECK(renamer_take_back(lane, &other) == RENAMER_NONE);
     CHECK(renamer_close(lane, quiet) == RENAMER_NONE);
     CHECK(renamer_quiet_exits(quiet, &number) == RENAMER_NONE);
     CHECK(renamer_quiet_clients(quiet, &number) == RENAMER_NONE);
@@ -252,6 +253,32 @@ static void many_back(void) {
     renamer_free_quiet(&quiet);
 }
 
+/* A lane comes back whole, and what was in its handle is handed back then. A refused call leaves the handle as it was,
+   and a lane with nothing does not come. */
+static void taken_back(void) {
+    renamer_lane lane = RENAMER_NO_LANE_YET, other = RENAMER_NO_LANE_YET, back = RENAMER_NO_LANE_YET;
+    struct seen before, asked;
+    uint64_t name;
+    CHECK(renamer_open(&lane, RENAMER_TREE, 4, 3) == RENAMER_DONE && renamer_split(&lane, 2, &other) == RENAMER_DONE);
+    CHECK(renamer_name(&other, 7, 0, &name) == RENAMER_DONE && name == 0);
+    before = seen_of(&other), asked = seen_of(&lane);
+    CHECK(renamer_take_back(&back, &other) == RENAMER_NONE && is_as(&other, &before));
+    CHECK(renamer_take_back(&lane, &back) == RENAMER_NOTHING_BACK && !back.at);
+    CHECK(renamer_take_back(&lane, &other) == RENAMER_NOTHING_BACK && is_as(&other, &before));
+    CHECK(renamer_hand_back(&other) == RENAMER_DONE && renamer_take_back(&lane, &back) == RENAMER_DONE);
+    before.at = back.at;
+    CHECK(is_as(&back, &before) && is_as(&lane, &asked));
+    CHECK(renamer_take_back(&lane, &other) == RENAMER_NOTHING_BACK && !other.at);
+    CHECK(renamer_split(&lane, 1, &other) == RENAMER_DONE && renamer_hand_back(&other) == RENAMER_DONE);
+    CHECK(renamer_take_back(&lane, &back) == RENAMER_DONE && seen_of(&back).quota == 1 && !seen_of(&back).grants);
+    CHECK(renamer_take_back(&lane, &other) == RENAMER_DONE && seen_of(&other).last.client == 7);
+    CHECK(renamer_take_back(&back, &other) == RENAMER_NOTHING_BACK && seen_of(&other).last.client == 7);
+    CHECK(renamer_split(&lane, 0, &other) == RENAMER_DONE && renamer_hand_back(&other) == RENAMER_DONE);
+    CHECK(renamer_take_back(&lane, &other) == RENAMER_DONE && seen_of(&other).last.client == 7);
+    renamer_free(&other), renamer_free(&back);
+    close_floor(&lane, 1);
+}
+
 /* Each status has a sentence of its own. */
 static void explained(void) {
     for (uint32_t status = 0; status <= RENAMER_LANES_THERE + 1; status++)
@@ -314,6 +341,7 @@ int main(void) {
     clients_inside();
     lost_inside();
     many_back();
+    taken_back();
     explained();
     two_floors();
     missing_lanes();

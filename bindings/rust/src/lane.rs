@@ -228,6 +228,30 @@ impl Lane {
         self.raw.join()
     }
 
+    /// Takes a lane of the same floor that was handed back, whole: with its quota, its grants and its room. Which of
+    /// several, is not said; it has quota or grants. This lane is only asked, so threads may share it.
+    ///
+    /// So a lane with one grant that is handed back is a free slot: who takes it back has the slot, and a drop frees it.
+    ///
+    /// ```
+    /// use renamer::{Error, Floor, Kind};
+    ///
+    /// let mut lane = Floor::open(Kind::Tree, 2, 1)?.into_lane();
+    /// lane.split(1)?.name(0, 0)?;
+    /// let slot = lane.take_back()?;
+    /// assert_eq!(slot.grants()[0].index(), 0);
+    /// assert_eq!(lane.take_back().err(), Some(Error::NothingBack));
+    /// drop(slot);
+    /// assert!(lane.take_back().is_ok());
+    /// # Ok::<(), Error>(())
+    /// ```
+    ///
+    /// # Errors
+    /// [`Error::NothingBack`].
+    pub fn take_back(&self) -> Result<Lane, Error> {
+        Ok(Lane { raw: self.raw.take_back()?, count: Arc::clone(&self.count) })
+    }
+
     /// Takes in, one after another, all lanes of the floor that were back when it was called, and of those that come
     /// back meanwhile some. It returns whatever other threads do.
     ///

@@ -59,6 +59,7 @@ extern "C" {
     fn renamer_grants(lane: *const Handle, first: u64, grants: *mut Grant, size: usize) -> u32;
     fn renamer_hand_back(lane: *mut Handle) -> u32;
     fn renamer_join(lane: *mut Handle) -> u32;
+    fn renamer_take_back(of: *const Handle, back: *mut Handle) -> u32;
     fn renamer_join_all(lane: *mut Handle) -> u32;
     fn renamer_close(lane: *mut Handle, quiet: *mut Handle) -> u32;
     fn renamer_quiet_exits(quiet: *const Handle, exits: *mut u64) -> u32;
@@ -267,6 +268,13 @@ impl RawLane {
     pub(crate) fn join(&mut self) -> Result<(), Error> {
         // SAFETY: `&mut` is the only way to the handle.
         done(unsafe { renamer_join(&raw mut self.0) })
+    }
+
+    pub(crate) fn take_back(&self) -> Result<RawLane, Error> {
+        let mut back = none();
+        // SAFETY: the call only asks the first handle, and the second is new, and none.
+        done(unsafe { renamer_take_back(&raw const self.0, &raw mut back) })?;
+        Ok(RawLane(back))
     }
 
     /// Joins until no lane is back.

@@ -1,6 +1,6 @@
 //! Lanes that come and go, as those of a thread pool: any number of them, alive at once or one after another.
 use renamer::{Error, Floor, Kind};
-use std::sync::Barrier;
+use std::sync::{Barrier, Mutex};
 use std::thread;
 
 const NETWORKS: [Kind; 3] = Kind::ALL;
@@ -80,4 +80,31 @@ fn a_lane_says_what_it_has() {
     lane.enter(17, 0).unwrap();
     assert_eq!(format!("{lane:?}"), "Lane { quota: 1, inside: 1, grants: 0, .. }");
     assert_eq!(format!("{floor:?}"), "Floor { quota: 1, alive: 1 }");
+}
+
+#[test]
+fn a_slot_has_one_owner_and_comes_back() {
+    const SLOTS: u64 = 4;
+    let mut shared = Floor::open(Kind::Tree, 2, SLOTS).unwrap().into_lane();
+    let made: Vec<_> = (0..SLOTS).map(|_| shared.split(1).unwrap()).collect();
+    for mut lane in made {
+        lane.name(0, 0).unwrap();
+    }
+    let owners: Vec<_> = (0..SLOTS).map(|_| Mutex::new(())).collect();
+    thread::scope(|scope| {
+        for _ in 0..SLOTS {
+            scope.spawn(|| {
+                for _ in 0..1_000 {
+                    let slot = shared.take_back().unwrap();
+                    assert_eq!((slot.grant_count(), slot.quota()), (1, 0));
+                    drop(owners[slot.grants()[0].index()].try_lock().unwrap());
+                }
+            });
+        }
+    });
+    let taken: Vec<_> = (0..SLOTS).map(|_| shared.take_back().unwrap()).collect();
+    assert_eq!(shared.take_back().err(), Some(Error::NothingBack));
+    assert_eq!(shared.alive(), 5);
+    drop(taken);
+    assert_eq!((shared.alive(), shared.join_all(), shared.grant_count()), (1, Ok(()), SLOTS));
 }
