@@ -40,8 +40,8 @@ refusal_of (Memory handed) = why.Memory
 abbrev pub AreAllIn : Option LaneValue → Option LaneValue → Search → Type 0
 AreAllIn old new s = (n : ℕ) × JoinsTimes n old new × (n ≡ s.found) × (IsWhole s ⊎ (s.found ≡ MOST_JOINS))
 
--- what a call leaves by which no lane came whole: what was seen, or that the floor has as many owners as it can have, or
--- that lanes with nothing were found for centuries
+-- what a call leaves by which no lane came whole: what was seen, or that the floor has as many owners as it can have,
+-- or that lanes with nothing were found for centuries
 abbrev pub StopsTake : TakeStop → Type 0
 StopsTake take.Nothing = ⊤
 StopsTake (take.NothingBack none) = IsNoneBack none

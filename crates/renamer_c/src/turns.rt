@@ -54,7 +54,7 @@ impl Ended {
     }
 }
 
-/// What was found at a place in a state, and is its finder's own. It is nothing, or a lane, and nothing else lets it go.
+/// What was found at a place in a state, and is its finder's own: nothing, or a lane. Nothing else lets it go.
 pub(crate) struct Found {
     state: u64,
     there: Option<Returned>,
