@@ -137,21 +137,15 @@ pub fn written_before<W: Write>(writer: &mut W, text: &[u8]) -> Option<u64> {
     }
 }
 
-/// Judges a list of grants that is at hand, by the exits of four.
-pub fn judged<W: Write>(alloc: Global, list: &[u8], writer: &mut W) -> Result<(), CheckFault> {
-    check(alloc, list, writer, 4)
-}
-
-/// The width by which words ask for a list of grants to be judged, if they do.
-pub fn width_asked(alloc: Global, words: Vec<String>) -> Option<u32> {
-    match parse_words(alloc, words) {
-        Ok(Job::Run(_options)) => None,
-        Ok(Job::Replay(_net)) => None,
-        Ok(Job::Check(width)) => Some(width),
-        Ok(Job::Show(_net)) => None,
-        Ok(_) => None,
-        Err(WordsFault::Help(_text)) => None,
-        Err(WordsFault::Refused(_text)) => None,
-        Err(WordsFault::Memory) => None,
+/// Judges a list of grants that is at hand, by four exits.
+pub fn judged<W: Write>(
+    alloc: Global,
+    list: &[u8],
+    writer: &mut W,
+) -> Option<Result<(), CheckFault>> {
+    if is_width(4) {
+        Some(check(alloc, list, writer, 4))
+    } else {
+        None
     }
 }
