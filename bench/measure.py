@@ -25,8 +25,6 @@ import time
 sys.dont_write_bytecode = True
 BENCH = pathlib.Path(__file__).resolve().parent
 ROOT = BENCH.parent
-sys.path.append(str(ROOT / "tools"))
-import outside
 
 DEBIAN = "/usr/share/cargo/registry"
 # A build that proves everything anew takes this long at most.
@@ -122,13 +120,6 @@ class Bench:
     def has_crates(self, *names):
         """Whether the folder of crates has each of these."""
         return all(any(pathlib.Path(self.crates).glob(f"{name}-[0-9]*")) for name in names)
-
-    def outside(self, folder, name):
-        """A program in Rattle of a folder of bench/, proved in a copy of the crates."""
-        built = BENCH / folder / "out" / name
-        with self.building():
-            outside.build(built, BENCH / folder, name)
-        return str(built)
 
     def compiled(self, words, source, name):
         """What a compiler makes of a source of bench/."""

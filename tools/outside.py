@@ -1,4 +1,4 @@
-"""Crates that stand outside the gate, in folders of checks/long and bench: it neither proves nor runs them.
+"""Crates that stand outside the gate, in folders of checks/long: it neither proves nor runs them.
 
 Their files have endings that no check reads. They get those of a crate in a copy of the repository's libraries, in a
 temporary folder, and what is built there is kept in the folder's out/.
@@ -24,13 +24,12 @@ def libraries():
 
 
 @contextlib.contextmanager
-def as_a_crate(folder, name, tests=False):
-    """The folder as a crate of that name in a copy of the libraries; for its tests with what rt has proved of them."""
+def as_a_crate(folder, name):
+    """The folder as a crate of that name in a copy of the libraries, with what rt has proved of them."""
     with tempfile.TemporaryDirectory() as copied:
         copy, below = pathlib.Path(copied), libraries()
         for library in below:
-            left_out = None if tests else shutil.ignore_patterns("out")
-            shutil.copytree(ROOT / "crates" / library, copy / "crates" / library, ignore=left_out)
+            shutil.copytree(ROOT / "crates" / library, copy / "crates" / library)
         crate = copy / "crates" / name
         for path in folder.glob("**/*"):
             if path.suffix in ENDINGS:
@@ -43,16 +42,14 @@ def as_a_crate(folder, name, tests=False):
         yield crate
 
 
-def build(built, folder, name, tests=False):
-    """Builds the crate if a source is newer than what is built: its tests by rt, a program by tools/build, which takes
-    what it has proved of the libraries."""
+def build_tests(built, folder, name):
+    """Builds the crate's tests by rt if a source is newer than what is built."""
     if subprocess.run([ROOT / "tools" / "is_current", built, *libraries(), "--", folder]).returncode == 0:
         return
     began = time.time()
-    with as_a_crate(folder, name, tests) as crate:
-        words = ["rt", "test"] if tests else [ROOT / "tools" / "build", name, name, crate.parent.parent]
+    with as_a_crate(folder, name) as crate:
         # What a test ends with says nothing of the build: that is judged when it is run.
-        subprocess.run(words, cwd=crate, stdout=subprocess.DEVNULL, stdin=subprocess.DEVNULL)
+        subprocess.run(["rt", "test"], cwd=crate, stdout=subprocess.DEVNULL, stdin=subprocess.DEVNULL)
         if not (crate / "out" / built.name).exists():
             raise SystemExit(f"{name} is not built")
         built.parent.mkdir(exist_ok=True)

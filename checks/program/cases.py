@@ -39,7 +39,7 @@ class Case:
     spares: int | None = None
     # How large the stack of each of its threads may be, in kilobytes, if that is said.
     stack: int | None = None
-    # Whether its first read and its first write are interrupted.
+    # Whether its first 1,000 reads and writes are interrupted.
     interrupted: bool = False
     by_script: bool = False
     # The tool of tools/ that is run, if that is said, by this program.

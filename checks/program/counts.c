@@ -1,7 +1,7 @@
 // Is loaded before a program: counts in the file COUNTS what the program asks for, as words of 64 bits: threads, growths
 // of memory, their bytes, and writes of its standard output and of its errors. Where THREADS_REFUSED is set, it gets
-// no thread. Where GROWTH_REFUSED is set, the growth of this number is refused. Where INTERRUPTED is set, the first read
-// of standard input and the first write of standard output are interrupted.
+// no thread. Where GROWTH_REFUSED is set, the growth of this number is refused. Where INTERRUPTED is set, so many
+// reads of standard input, and as many writes of standard output, are interrupted before one is made.
 #define _GNU_SOURCE
 #include <dlfcn.h>
 #include <errno.h>
@@ -63,8 +63,9 @@ void *realloc(void *block, size_t size) {
 
 // Whether a call on a stream is interrupted.
 static int is_interrupted(int stream) {
-    static atomic_int was_interrupted[2];
-    if (stream < 0 || stream > 1 || !getenv("INTERRUPTED") || atomic_exchange(&was_interrupted[stream], 1)) return 0;
+    static atomic_int calls[2];
+    const char *most = getenv("INTERRUPTED");
+    if (stream < 0 || stream > 1 || !most || atomic_fetch_add(&calls[stream], 1) >= atoi(most)) return 0;
     errno = EINTR;
     return 1;
 }

@@ -135,8 +135,8 @@ clients less its share of m.
 With `--together` epochs run one after another, with `--carry` or without, and
 all K workers walk each at once, on one network. Counts and names are the same,
 but with several workers it is their steps that settle who has which name. This
-is for seeing, testing and measuring threads on one network: it takes more time
-than one worker does.
+is for seeing, testing and measuring threads on one network: it mostly takes
+more processor time than one worker does.
 
 A run prints nothing before its last epoch has ended. Then either form is
 written in pieces.

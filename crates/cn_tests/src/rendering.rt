@@ -30,6 +30,36 @@ const LEFT: Reply = Reply::Stepped(Moved::Out {
     name: 0,
 });
 
+/// Two clients who come in by two wires, of whom the later one goes first.
+fn two_clients(alloc: Global) -> Option<Vec<u8>> {
+    let network = Net::new(Kind::Bitonic, 2).ok()?.build(alloc).ok()?;
+    let later = Command::Enter {
+        client: 9,
+        entry: 1,
+    };
+    let later_step = Command::Step { client: 9 };
+    let commands = [ENTER, later, later_step, STEP, later_step, STEP];
+    let other_passed = Moved::On {
+        balancer: 0,
+        number: 1,
+        wire: 3,
+    };
+    let other_left = Moved::Out {
+        exit: 1,
+        visit: 0,
+        name: 1,
+    };
+    let answers = [
+        Answer::Replied(Reply::Entered),
+        Answer::Replied(Reply::Entered),
+        Answer::Replied(PASSED),
+        Answer::Replied(Reply::Stepped(other_passed)),
+        Answer::Replied(LEFT),
+        Answer::Replied(Reply::Stepped(other_left)),
+    ];
+    render_replay(alloc, &network, &commands, &answers, 0, 2, 0).ok()
+}
+
 /// A turn that is refused while a client is inside, and then done.
 fn turn_refused_then_done(alloc: Global, network: &Counting, ended: EpochRecord) -> Option<Vec<u8>>
     requires { IsWholeRecord network.now.table.width ended }
@@ -85,14 +115,15 @@ fn every_refusal(alloc: Global, network: &Counting, ended: EpochRecord) -> Optio
     render_replay(alloc, network, &commands, &answers, 1, 1, 1).ok()
 }
 
-/// Which of both replays is rendered.
+/// Which replay is rendered.
 #[derive(Clone, Copy)]
 enum Replayed {
+    TwoClients,
     TurnRefusedThenDone,
     EveryRefusal,
 }
 
-/// A replay on bitonic 2 of an epoch in which client 7 came in and left.
+/// A replay on bitonic 2: of two clients, or of an epoch in which client 7 came in and left.
 fn rendered(alloc: Global, replayed: Replayed) -> Option<Vec<u8>> {
     let net = Net::new(Kind::Bitonic, 2).ok()?;
     let network = net.build(alloc).ok()?;
@@ -103,6 +134,7 @@ fn rendered(alloc: Global, replayed: Replayed) -> Option<Vec<u8>> {
         return None;
     }
     match replayed {
+        Replayed::TwoClients => two_clients(alloc),
         Replayed::TurnRefusedThenDone => turn_refused_then_done(alloc, &network, ended),
         Replayed::EveryRefusal => every_refusal(alloc, &network, ended),
     }
@@ -133,10 +165,11 @@ fn is_wiring_rendered(alloc: Global) -> bool {
 #[test]
 fn replays_and_a_wiring(rt: HostRuntime) {
     let alloc = rt.alloc();
+    let two = is_rendered(alloc, Replayed::TwoClients, ROWS[0].3);
     let turn = is_rendered(alloc, Replayed::TurnRefusedThenDone, ROWS[2].3);
     let refusals = is_rendered(alloc, Replayed::EveryRefusal, ROWS[3].3);
     assert_eq!(rt;
-        (turn, refusals, is_wiring_rendered(alloc)),
-        (true, true, true)
+        (two, turn, refusals, is_wiring_rendered(alloc)),
+        (true, true, true, true)
     );
 }

@@ -57,7 +57,7 @@ module _ {start : Start} {wire b n : ℕ} {v w : View} (go : GoTogether start wi
   pub grants-so : w.grants ≡ v.grants
   grants-so = ap (λ (x : View). x.grants) go.went ∙ grants-kept b n (on v.tokens wire) v
 
-  forward : wire < start.network.table.entries + 2 * b
+  pub forward : wire < start.network.table.entries + 2 * b
   forward = subst (LeadsOn start.network.table wire) go.ends (go.formed.forward wire go.low)
 
   inside : start.network.table.entries + 2 * b + 1 < length start.network.table.ends

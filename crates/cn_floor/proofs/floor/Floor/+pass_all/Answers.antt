@@ -1,10 +1,28 @@
-use Rattle.std.proofs.Common.{rules, ℕ, ◌+◌, ◌-◌, ◌*◌, ◌/◌, length, arith, sym, ap, ◌∙◌, subst}
+use Rattle.std.proofs.Common.{◌≡◌, ℕ, ◌+◌, ◌-◌, ◌*◌, ◌/◌, ◌%◌, ◌<◌, ◌≤◌, length, arith, sym, ap, ◌∙◌, subst}
 use Rattle.cn_floor.proofs.Common.{FloorValue, Network, base, on}
 use Rattle.cn_floor.proofs.InLane.InTurn.{swept-both, swept-first, swept-none}
 use Rattle.cn_floor.proofs.InLane.Listed.Groups.{length-dealt}
-use Rattle.cn_floor.proofs.InLane.Listed.Together.{first-next, goes-by-itself, grants-by, grants-so, left-by, left-so, second-next}
+use Rattle.cn_floor.proofs.InLane.Listed.Together.{first-next, forward, goes-by-itself, grants-by, grants-so, left-by, left-so, second-next}
 use Rattle.cn_floor.proofs.InLane.Taken.{names-fit}
 use Rattle.cn_floor.proofs.floor.Floor.+pass_all.Goals as goal
+
+is-low : (q n : ℕ) → q ≡ n % 2 → q < 2
+is-low q n is = omega (arith, is)
+
+falls-on : (ends wire e n b q t : ℕ) → ends - wire ≡ t → wire < n + 2 * b → e ≡ n → e + 2 * b + q < ends → ends - (e + 2 * b + q) < t
+falls-on ends wire e n b q t was on same low = omega arith
+
+falls-first : (ends wire e n b t : ℕ) → ends - wire ≡ t → wire < n + 2 * b → e ≡ n → e + 2 * b < ends → ends - (e + 2 * b) < t
+falls-first ends wire e n b t was on same low = omega arith
+
+first-wire : (e n b : ℕ) → e ≡ n → e + 2 * b ≡ n + 2 * b + 0
+first-wire e n b same = omega (arith, same)
+
+half-fits : (n q m r : ℕ) → q ≡ m % 2 → n ≤ r → (n + q) / 2 ≤ r
+half-fits n q m r is fits = omega (arith, is-low q m is)
+
+rest-fit : (n m r s : ℕ) → s + m ≡ r → n ≤ r → n - m ≤ s
+rest-fit n m r s rest fits = omega arith
 
 pub returns-then-count-eq0-clause-swept : goal.returns-then-count-eq0-clause-swept
 returns-then-count-eq0-clause-swept g t c = swept-none c.args.self.now.start c.args.seat.now.me.0
@@ -25,14 +43,14 @@ pass_all-requires g t c _ (notes, party) =
     let go = rw c.in-Balancer.is at c.let_by-end.ensures.together in
     let entries = c.entries.ensures.value ∙ ap (λ (n : Network). n.table.entries) c.requires.network in
     let next = (goes-by-itself go (c.requires.many ∙ c.if-count-eq1.true) _ c.output_of-output.ensures
-    (c.entries.result + 2 * c.in-Balancer.balancer + c.output_of-output.result) (omega (arith, entries))).0 in
+    _ (ap (λ (e : ℕ). e + 2 * c.in-Balancer.balancer + c.output_of-output.result) entries)).0 in
     let here = c.let_by-end.ensures.seat.0 ∙ c.requires.own.0 in
     let of = next.of ∙ c.requires.own.1 in
     let empty = c.let_by-end.ensures.seat.1 in
     let loads = next.loads ∙ c.requires.slots.1 in
     let many = ap length next.are ∙ c.requires.many in
     let are = subst (g.P.Party.Are (g.P.Party.kept c.args.notes.now) c.args.party c.args.count) (sym next.are) c.requires.party in (
-      search rules,
+      falls-on _ _ _ _ _ _ _ c.decreases (forward go) entries next.low,
       (
         notes,
         (
@@ -62,7 +80,7 @@ returns-then-count-eq1-clause-left g t c =
     let go = rw c.in-Balancer.is at c.let_by-end.ensures.together in
     let entries = c.entries.ensures.value ∙ ap (λ (n : Network). n.table.entries) c.requires.network in
     (goes-by-itself go (c.requires.many ∙ c.if-count-eq1.true) _ c.output_of-output.ensures _
-    (omega (arith, entries))).1 _ c.pass_all.ensures.left
+    (ap (λ (e : ℕ). e + 2 * c.in-Balancer.balancer + c.output_of-output.result) entries)).1 _ c.pass_all.ensures.left
 
 pub returns-then-count-eq1-clause-noted : goal.returns-then-count-eq1-clause-noted
 returns-then-count-eq1-clause-noted g t c before noted =
@@ -74,9 +92,9 @@ pass_all-requires-in-Balancer g t c _ (notes, party) =
     let go = rw c.in-Balancer.is at c.let_by-end.ensures.together in
     let entries = c.entries.ensures.value ∙ ap (λ (n : Network). n.table.entries) c.requires.network in
     let next = second-next go c.output_of-output.result c.output_of-output.ensures
-    (c.entries.result + 2 * c.in-Balancer.balancer + 1) (omega (arith, entries)) in
+    _ (ap (λ (e : ℕ). e + 2 * c.in-Balancer.balancer + 1) entries) in
     let dealt = length-dealt c.output_of-output.result (on c.args.seat.now.me.0.tokens c.args.wire)
-    (omega (arith, c.output_of-output.ensures)) in
+    (is-low _ _ c.output_of-output.ensures) in
     let here = c.let_by-end.ensures.seat.0 ∙ c.requires.own.0 in
     let of = next.of ∙ c.requires.own.1 in
     let empty = c.let_by-end.ensures.seat.1 in
@@ -84,7 +102,7 @@ pass_all-requires-in-Balancer g t c _ (notes, party) =
     let many = ap length next.are ∙ dealt.1 ∙ ap (λ (n : ℕ). (n + c.output_of-output.result) / 2) c.requires.many in
     let dealt-on = (c.deal-upper.ensures _ _ c.requires.party).1 in
     let are = subst (g.P.Party.Are (g.P.Party.kept c.args.notes.now) c.deal-upper.result.1 _) (sym next.are) dealt-on in (
-      search rules,
+      falls-on _ _ _ _ _ _ _ c.decreases (forward go) entries next.low,
       (
         notes,
         (
@@ -99,7 +117,7 @@ pass_all-requires-in-Balancer g t c _ (notes, party) =
                   next.low,
                   (
                     next.once,
-                    (c.requires.network, (many, (are, (next.above, omega arith)))),
+                    (c.requires.network, (many, (are, (next.above, half-fits _ _ _ _ c.output_of-output.ensures c.requires.room)))),
                   ),
                 ),
               ),
@@ -114,9 +132,10 @@ pass_all-requires-in-Balancer-2 g t c _ (notes, party) =
     let go = rw c.in-Balancer.is at c.let_by-end.ensures.together in
     let entries = c.entries.ensures.value ∙ ap (λ (n : Network). n.table.entries) c.requires.network in
     let next = first-next go c.output_of-output.result c.output_of-output.ensures c.pass_all-in-Balancer.ensures.left
-    c.pass_all-in-Balancer.ensures.once (omega (arith, entries)) (c.entries.result + 2 * c.in-Balancer.balancer) (omega (arith, entries)) in
+    c.pass_all-in-Balancer.ensures.once (ap (λ (e : ℕ). e + 2 * c.in-Balancer.balancer + 1) entries)
+    _ (first-wire _ _ c.in-Balancer.balancer entries) in
     let dealt = length-dealt c.output_of-output.result (on c.args.seat.now.me.0.tokens c.args.wire)
-    (omega (arith, c.output_of-output.ensures)) in
+    (is-low _ _ c.output_of-output.ensures) in
     let here = c.pass_all-in-Balancer.ensures.seat.0 ∙ c.let_by-end.ensures.seat.0 ∙ c.requires.own.0 in
     let of = next.of ∙ c.requires.own.1 in
     let empty = c.pass_all-in-Balancer.ensures.seat.1 in
@@ -124,7 +143,7 @@ pass_all-requires-in-Balancer-2 g t c _ (notes, party) =
     let many = ap length next.are ∙ dealt.0 ∙ ap (λ (n : ℕ). n - (n + c.output_of-output.result) / 2) c.requires.many in
     let are = subst (g.P.Party.Are (g.P.Party.kept c.pass_all-in-Balancer.new.notes) c.deal-upper.result.0 _) (sym next.are)
     (rw c.pass_all-in-Balancer.ensures.kept (c.deal-upper.ensures _ _ c.requires.party).0) in (
-      search rules,
+      falls-first _ _ _ _ _ _ c.decreases (forward go) entries next.low,
       (
         notes,
         (
@@ -139,7 +158,7 @@ pass_all-requires-in-Balancer-2 g t c _ (notes, party) =
                   next.low,
                   (
                     next.once,
-                    (c.requires.network, (many, (are, (next.above, omega arith)))),
+                    (c.requires.network, (many, (are, (next.above, rest-fit _ _ _ _ c.pass_all-in-Balancer.ensures.room c.requires.room)))),
                   ),
                 ),
               ),
@@ -153,7 +172,8 @@ pub returns-else-count-eq1-clause-left : goal.returns-else-count-eq1-clause-left
 returns-else-count-eq1-clause-left g t c =
     let go = rw c.in-Balancer.is at c.let_by-end.ensures.together in
     let entries = c.entries.ensures.value ∙ ap (λ (n : Network). n.table.entries) c.requires.network in
-    left-so go c.pass_all-in-Balancer.ensures.left c.pass_all-in-Balancer-2.ensures.left (omega (arith, entries)) (omega (arith, entries))
+    left-so go c.pass_all-in-Balancer.ensures.left c.pass_all-in-Balancer-2.ensures.left
+    (ap (λ (e : ℕ). e + 2 * c.in-Balancer.balancer + 1) entries) (first-wire _ _ c.in-Balancer.balancer entries)
 
 pub returns-else-count-eq1-clause-noted : goal.returns-else-count-eq1-clause-noted
 returns-else-count-eq1-clause-noted g t c before noted =
