@@ -38,17 +38,14 @@ _renamer_tool() {
     case $before in
         --network) words='bitonic periodic tree' ;;
         --width) words='2 4 8 16 32 64 128 256' ;;
-        --clients | --seed | --epochs | --at | --beat | --own | --other | --busy) return ;;
+        --clients | --seed | --epochs | --at | --beat) return ;;
         --column | --epoch | --name | --delimiter) return ;;
-        --replay | --output | --csv | --picture | --networks | --strides | --processors | *'<' | *'>') ;;
+        --replay | --output | *'<' | *'>') ;;
         *)
             case ${COMP_WORDS[0]##*/} in
                 renamer-number) words=' --column --share --epoch --name --delimiter --help ' ;;
                 renamer-picture) words=' --replay --output --at --table --beat --help ' ;;
                 renamer-schedule) words=' --clients --seed --network --width --epochs --help ' ;;
-                renamer-contention)
-                    words=' --networks --strides --processors --own --other --busy --csv --picture --measure --help '
-                    ;;
             esac
             for given in "${COMP_WORDS[@]:1:COMP_CWORD-1}"; do
                 words=${words/ "$given" / }
@@ -61,4 +58,4 @@ _renamer_tool() {
 }
 
 complete -o default -F _renamer renamer
-complete -o default -F _renamer_tool renamer-number renamer-picture renamer-schedule renamer-contention
+complete -o default -F _renamer_tool renamer-number renamer-picture renamer-schedule

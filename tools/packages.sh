@@ -86,10 +86,9 @@ Depends: renamer (>= $version), python3 (>= 3.10)
 Suggests: renamer-doc
 Multi-Arch: foreign
 Section: utils
-Description: tools for renamer: CSV, pictures, schedules, contention
+Description: tools for renamer: CSV, pictures, schedules
  Adds a column of names to a CSV, draws counting networks and how clients walk
- through them, writes random schedules, and models how many names a network
- gives on many processors.
+ through them, and writes random schedules.
  .
  It also has a check, which says whether what is installed works.
 

@@ -12,6 +12,8 @@ ROOT = pathlib.Path(__file__).resolve().parents[2]
 OUTPUTS = ("file", "full", "broken", "closed")
 ERRORS = ("file", "full", "closed")
 INPUTS = ("file", "folder", "closed", "terminal", "pipe")
+# The status of a fault line of the program, by how it begins.
+STATUSES = {b"record ": 1, b"no such ": 2, b"a word with ": 2, b"write after ": 3, b"memory": 3, b"flaw: ": 4}
 # What a case may limit.
 LIMITS = ("growths", "bytes", "writes", "error_writes")
 
@@ -81,12 +83,21 @@ def lines_of(rest, given):
         return reckoned(text, given)
     if form in ("*", "#", "+"):
         count, _, line = text.partition(" ")
+        if "x" in count:
+            epochs, _, count = count.partition("x")
+            lines = (line.replace("@", str(epoch)) for epoch in range(1, int(epochs) + 1))
+            return b"".join(lines_of(f"{form} {count} {line}", given) for line in lines)
         if form == "*":
             return (unescaped(line) + b"\n") * int(count)
         first, parts = (0 if form == "#" else 1), unescaped(line + "\n").split(b"&")
         numbers = range(first, first + int(count))
         return b"".join(map(b"%d".join(parts).__mod__, zip(*[numbers] * (len(parts) - 1))))
     raise NoCase(rest)
+
+
+def status_of(errors):
+    """The status of a run that says this, if it is a fault line of the program."""
+    return next((status for line, status in STATUSES.items() if errors.startswith(b"renamer: " + line)), 0)
 
 
 class Reader:
@@ -102,13 +113,17 @@ class Reader:
 
     def end(self):
         if self.case:
+            self.case.status = self.case.status or status_of(self.case.wanted_errors)
             self.done.append(self.case)
 
     def whole(self, mark, rest):
         """A line that is a case of its own. Whether it was one."""
         if mark == "refuses":
             self.begin(f"to refuse {rest}")
-            self.case.words, self.case.open_errors, self.case.status = rest.split(), True, 2
+            self.refuses(rest)
+        elif mark == "fails":
+            self.begin(f"to fail at {rest}")
+            self.fails(rest)
         elif mark == "helps":
             self.begin(f"to help with {rest}")
             self.case.words = rest.split()
@@ -121,6 +136,23 @@ class Reader:
         else:
             return False
         return True
+
+    def refuses(self, rest):
+        """Words, and the line or the hint with which they are refused, if that is said."""
+        words, says, line = rest.partition(" ! ")
+        words, hints, hint = words.partition(" with ")
+        self.setting("words", words)
+        self.case.status, self.case.open_errors = 2, not says
+        self.case.error_lines += [hint] if hints else []
+        self.case.wanted_errors += lines_of(f" {line}", b"") if says else b""
+
+    def fails(self, rest):
+        """Words, the lines of the input, and the fault line."""
+        words, _, ended = rest.partition(" < ")
+        lines, _, fault = ended.rpartition(" ! ")
+        self.setting("words", words)
+        self.case.given += b"".join(lines_of(f" {line}", b"") for line in lines.split())
+        self.case.wanted_errors += f"renamer: {fault}\n".encode()
 
     def setting(self, mark, rest):
         """A line that says one thing of the case that stands open. Whether it was one."""
@@ -140,8 +172,9 @@ class Reader:
             case.wanted_output += f"renamer {(ROOT / 'VERSION').read_text().strip()}\n".encode()
         elif (mark, rest) == ("by", "the script"):
             case.by_script = True
-        elif mark == "by" and rest.startswith("the tool "):
-            case.tool = rest.removeprefix("the tool ")
+        elif mark == "tool":
+            case.tool, _, words = rest.partition(" ")
+            return self.setting("words", words)
         else:
             return self.stream(mark, rest)
         return True
