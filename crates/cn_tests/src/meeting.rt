@@ -123,7 +123,7 @@ fn meeting_gate(rt: HostRuntime) {
     assert_eq!(rt; [two, eight], [wanted, wanted]);
 }
 
-/// A number of workers, two clients for each as a batch, and how its report on bitonic 4 begins.
+/// A number of workers, a client or two for each as a batch, and how its report on bitonic 4 begins.
 type Row = (u32, &'static [u8], &'static [u8]);
 
 const TWO: Row = (
@@ -152,6 +152,29 @@ const EIGHT: Row = (
       exit 3 count 4\n",
 );
 
+const SIXTY_FOUR: Row = (
+    64,
+    b"epoch,client,entry\n\
+      1,0,0\n1,1,1\n1,2,2\n1,3,3\n\
+      1,4,0\n1,5,1\n1,6,2\n1,7,3\n\
+      1,8,0\n1,9,1\n1,10,2\n1,11,3\n\
+      1,12,0\n1,13,1\n1,14,2\n1,15,3\n\
+      1,16,0\n1,17,1\n1,18,2\n1,19,3\n\
+      1,20,0\n1,21,1\n1,22,2\n1,23,3\n\
+      1,24,0\n1,25,1\n1,26,2\n1,27,3\n\
+      1,28,0\n1,29,1\n1,30,2\n1,31,3\n\
+      1,32,0\n1,33,1\n1,34,2\n1,35,3\n\
+      1,36,0\n1,37,1\n1,38,2\n1,39,3\n\
+      1,40,0\n1,41,1\n1,42,2\n1,43,3\n\
+      1,44,0\n1,45,1\n1,46,2\n1,47,3\n\
+      1,48,0\n1,49,1\n1,50,2\n1,51,3\n\
+      1,52,0\n1,53,1\n1,54,2\n1,55,3\n\
+      1,56,0\n1,57,1\n1,58,2\n1,59,3\n\
+      1,60,0\n1,61,1\n1,62,2\n1,63,3\n",
+    b"network bitonic width 4 balancers 6 depth 3\n\
+      epoch 1 clients 64\n",
+);
+
 /// Whether the workers of a run of a batch meet, and its report begins so.
 fn meet_in_a_batch<R: Threads + Wait + Sync>(
     rt: &R,
@@ -174,7 +197,7 @@ fn meeting_gate_of_a_batch(rt: HostRuntime) -> Result<(), Fail> {
     let (alloc, state) = (rt.alloc(), RandomState::new(&rt)?);
     let two = meet_in_a_batch(&rt, alloc, state, &TWO);
     let eight = meet_in_a_batch(&rt, alloc, state, &EIGHT);
-    let wanted = Some(([true, true], true));
-    assert_eq!(rt; [two, eight], [wanted, wanted]);
+    let all = meet_in_a_batch(&rt, alloc, state, &SIXTY_FOUR);
+    assert_eq!(rt; [two, eight, all], [Some(([true, true], true)); 3]);
     Ok(())
 }

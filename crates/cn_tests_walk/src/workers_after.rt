@@ -5,6 +5,7 @@ use crate::epochs::{ONE_CLIENT, Row, THREE_CLIENTS, TWO_AT_ONCE, are_named};
 use crate::epochs_after::run_after;
 use cn_bitonic::bitonic;
 use cn_floor::Words;
+use cn_ledger::Client;
 use cn_wiring::Counting;
 use std::alloc::Global;
 use std::sync::Wait;
@@ -18,6 +19,21 @@ const BY_TWO: Row<'_> = (
     [1, 1, 1, 0],
     &[5, 6, 7],
     &[(0, ONE_CLIENT), (1, [2, 6, 2])],
+);
+
+/// Two clients of each worker come in by one entry, and go by its balancer together.
+const BY_TWO_WITH_TWO: Row<'_> = (
+    &[
+        Client { id: 5, entry: 0 },
+        Client { id: 6, entry: 0 },
+        Client { id: 7, entry: 2 },
+        Client { id: 8, entry: 2 },
+    ],
+    2,
+    2,
+    [1; 4],
+    &[5, 6, 7, 8],
+    &[(0, [2, 5, 2]), (1, [2, 5, 2])],
 );
 
 /// Whether so many leave by each exit, and these have names.
@@ -60,6 +76,7 @@ fn workers_and_hand(rt: HostRuntime) {
     let found = [
         is_asked(&rt, alloc, &BY_TWO),
         is_asked(&rt, alloc, &TWO_AT_ONCE),
+        is_asked(&rt, alloc, &BY_TWO_WITH_TWO),
     ];
-    assert_eq!(rt; found, [Some(true); 2]);
+    assert_eq!(rt; found, [Some(true); 3]);
 }
