@@ -34,17 +34,31 @@ def granted(batch: bytes) -> bytes:
     return done.stdout
 
 
-def confirm(epochs):
-    """Lets the program name clients, who come in lists, each with its epoch and the name of the first. Raises Fault
-    unless it gives those of a list the names from there up, in their order: that it does is proved."""
-    batch = [((b"%d,%%d\n" % epoch * len(clients)) % tuple(clients), (epoch, first, clients))
-             for epoch, first, clients in epochs]
-    grants, at = granted(b"epoch,client\n" + b"".join(text for text, _ in batch)), len(HEADER)
-    for _, (epoch, first, clients) in batch:
-        pairs = itertools.chain.from_iterable(zip(clients, itertools.count(first)))
-        text = (b"%d,%%d,%%d\n" % epoch * len(clients)) % tuple(pairs)
+def lines(form: bytes, epoch: int, count: int):
+    """Yields the lines of so many clients of an epoch, a thousand at a time. A form is a line with E for the epoch and N
+    for each number from 0 up."""
+    form = form.replace(b"E", b"%d" % epoch)
+    yield b"".join([form.replace(b"N", b"%d" % number) for number in range(min(count, 1000))])
+    if count > 1000:
+        # Each thousand differs from the others in how its numbers begin.
+        thousand = b"".join([form.replace(b"N", b"N%03d" % last) for last in range(1000)])
+        for first in range(1000, count, 1000):
+            text = thousand.replace(b"N", b"%d" % (first // 1000))
+            yield text[:len(text) // 1000 * (count - first)]
+
+
+def confirm(epochs: list[int]):
+    """Lets the program name the clients 0 and up of epochs of so many. Raises Fault unless it gives them the names 0
+    and up, in their order: that it does is proved."""
+    def of_all(form: bytes):
+        return itertools.chain.from_iterable(lines(form, *epoch) for epoch in enumerate(epochs))
+
+    grants, at = granted(b"epoch,client\n" + b"".join(of_all(b"E,N\n"))), 0
+    for text in itertools.chain([HEADER], of_all(b"E,N,N\n")):
         if not grants.startswith(text, at):
             break
         at += len(text)
-    if not grants.startswith(HEADER) or at != len(grants):
-        raise Fault(3, "the program gave other names than 0 and up, in the order of the ids")
+    else:
+        if at == len(grants):
+            return
+    raise Fault(3, "the program gave other names than 0 and up, in the order of the ids")

@@ -21,11 +21,6 @@ class Fault(Exception):
         self.status = status
 
 
-def as_bytes(text: str) -> bytes:
-    """Returns the bytes of a field: a sign of it stands for each byte, whatever its code is."""
-    return text.encode("latin-1")
-
-
 def shown(text: bytes) -> str:
     """Returns a text in quotes, on one line, and cut off if it is long."""
     said = text.decode("utf-8", "backslashreplace")
@@ -38,28 +33,15 @@ def listed(words: list[str]) -> str:
 
 
 class Plain:
-    """Rows without quotes, which all end in the same way, and no blank lines."""
+    """Rows without quotes, which all have as many fields and the same end, and no blank lines."""
 
-    def __init__(self, text: bytes, end: bytes, line: int, delimiter: str):
-        self.text, self.end, self.delimiter = text, end, delimiter
-        self.lines = range(line, line + text.count(end))
-        self.fields, self.step = [], 0
+    def __init__(self, text: bytes, end: bytes, lines: range, delimiter: bytes, width: int):
+        self.text, self.end, self.lines, self.delimiter, self.width = text, end, lines, delimiter, width
 
-    def odd(self, width: int) -> tuple[int, bytes, int] | None:
-        """Cuts the rows into fields. Returns the first row that has not so many: its line, its text, its fields."""
-        # Each line end is a field of its own.
-        end, rows, self.step = self.end.decode(), len(self.lines), width + 1
-        apart = self.text.decode("latin-1").replace(end, self.delimiter + end + self.delimiter)
-        self.fields = apart.split(self.delimiter)
-        if len(self.fields) == rows * self.step + 1 and self.fields[width::self.step].count(end) == rows:
-            return None
-        texts = zip(self.lines, self.text.split(self.end))
-        widths = ((line, row, row.count(self.delimiter.encode()) + 1) for line, row in texts)
-        return next(row for row in widths if row[2] != width)
-
-    def column(self, at: int) -> list[str]:
-        """Returns the fields of a column, of rows that were cut."""
-        return self.fields[at:-1:self.step]
+    def columns(self, places: list[int]) -> list[list[bytes]]:
+        """Returns the fields of each column."""
+        fields = self.text.replace(self.end, self.delimiter).split(self.delimiter)
+        return [fields[place:-1:self.width] for place in places]
 
     def template(self, mark: bytes) -> bytes:
         """Returns the rows with a mark at the end of each, as `%` reads them."""
@@ -83,14 +65,9 @@ class Parsed:
         else:
             self.before += text
 
-    def odd(self, width: int) -> tuple[int, bytes, int] | None:
-        """Returns the first row that has not so many fields, as its line, its text and its fields."""
-        rows = ((line, text.rstrip(b"\r\n"), len(row)) for line, text, row in zip(self.lines, self.texts, self.rows))
-        return next((row for row in rows if row[2] != width), None)
-
-    def column(self, at: int) -> list[str]:
-        """Returns the fields of a column."""
-        return [row[at] for row in self.rows]
+    def columns(self, places: list[int]) -> list[list[bytes]]:
+        """Returns the fields of each column, as bytes."""
+        return [[row[place].encode("latin-1") for row in self.rows] for place in places]
 
     def template(self, mark: bytes) -> bytes:
         """Returns the rows with a mark at the end of each, as `%` reads them."""
@@ -101,23 +78,15 @@ class Parsed:
         return b"".join(parts)
 
 
-def line_end(text: bytes) -> bytes:
-    """Returns the end of each line, if these are lines without quotes of which none is blank, else nothing."""
-    if b'"' in text or not text.endswith(b"\n") or text.startswith((b"\n", b"\r")):
-        return b""
-    if b"\r" not in text:
-        return b"" if b"\n\n" in text else b"\n"
-    is_even = text.count(b"\r") == text.count(b"\n") == text.count(b"\r\n")
-    return b"\r\n" if is_even and b"\n\r" not in text else b""
-
-
 class Table:
     """A CSV in a file, which is read from its beginning more than once."""
 
-    def __init__(self, file: io.BufferedIOBase, name: str, delimiter: str):
+    def __init__(self, file: io.BufferedIOBase, name: str, delimiter: bytes):
         # A field may have any size.
         csv.field_size_limit(sys.maxsize)
-        self.file, self.name, self.delimiter, self.line = file, name, delimiter, 1
+        self.file, self.name, self.delimiter, self.line, self.width = file, name, delimiter, 1, 0
+        # Without these bytes a text has nothing but what sets its fields and rows apart.
+        self.others = bytes(set(range(256)).difference(delimiter + b'"\r\n\0'))
 
     def header(self) -> Parsed:
         """Goes to the beginning, and reads the first row."""
@@ -131,24 +100,37 @@ class Table:
             rows = self.parsed(text)
             before += rows.before
             if rows.texts:
-                rows.before = before
+                rows.before, self.width = before, len(rows.rows[0])
                 return rows
         raise Fault(1, f"{self.name} is empty: its first row is to name the columns, as customer_id,amount")
 
     def blocks(self):
         """Yields the rows after the header."""
         while text := self.file.read(BLOCK) + self.file.readline():
-            self.refuse_zeros(text)
-            end = line_end(text)
-            if end:
-                rows = Plain(text, end, self.line, self.delimiter)
-                self.line = rows.lines.stop
-            else:
+            rows = self.plain(text)
+            if not rows:
                 rows = self.parsed(text)
+                self.refuse_odd(rows)
             yield rows
+
+    def plain(self, text: bytes) -> Plain | None:
+        """Returns the rows of a text if they are plain."""
+        marks = text.translate(None, self.others)
+        end = b"\r\n" if text.endswith(b"\r\n") else b"\n"
+        row = self.delimiter * (self.width - 1) + end
+        count = len(marks) // len(row)
+        if marks != row * count or not text.endswith(end) or end == b"\r\n" and text.count(end) != count:
+            return None
+        # In rows of one field nothing else sets a blank line apart.
+        if self.width == 1 and end * 2 in end + text:
+            return None
+        lines = range(self.line, self.line + count)
+        self.line = lines.stop
+        return Plain(text, end, lines, self.delimiter, self.width)
 
     def parsed(self, text: bytes) -> Parsed:
         """Reads the rows that begin in a text, of which the last may go on in what follows."""
+        self.refuse_zeros(text)
         lines, done, rows = io.BytesIO(text).readlines(), 0, Parsed()
 
         def wanted():
@@ -160,7 +142,7 @@ class Table:
                 self.refuse_zeros(lines[at])
                 yield lines[at].decode("latin-1")
 
-        reader = csv.reader(wanted(), delimiter=self.delimiter, strict=True)
+        reader = csv.reader(wanted(), delimiter=self.delimiter.decode(), strict=True)
         try:
             for row in reader:
                 first, done = done, reader.line_num
@@ -169,6 +151,15 @@ class Table:
             raise self.unreadable(self.line + done, str(fault)) from fault
         self.line += done
         return rows
+
+    def refuse_odd(self, rows: Parsed):
+        """Refuses a row that has not as many fields as the header."""
+        for line, text, row in zip(rows.lines, rows.texts, rows.rows):
+            if len(row) != self.width:
+                what = f"{len(row)} field{'s' * (len(row) > 1)}, and the header has {self.width}"
+                body = text.rstrip(b"\r\n")
+                raise Fault(1, f"{self.name}: the row on line {line}, {shown(body)}, has {what}: give it as many, and "
+                               f"put a field that has {shown(self.delimiter)} in it in quotes")
 
     def refuse_zeros(self, text: bytes):
         """Refuses a byte 0."""
