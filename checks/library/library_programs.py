@@ -3,6 +3,7 @@ sanitizers."""
 import dataclasses
 import os
 import pathlib
+import re
 import shutil
 import subprocess
 
@@ -79,6 +80,7 @@ class Program:
 GROWTHS = (C / "tests" / "growths.c", WRAPPED)
 FUZZ = Program(C / "tests" / "fuzz.c", (C / "tests" / "model.c", *sorted((C / "tests").glob("calls_*.c")), *GROWTHS))
 EPOCHS = "".join(f"epoch {epoch}: {2 * epoch + 2} clients in the first rows\n" for epoch in (1, 2, 3))
+UNSEEN = Program(C / "tests" / "unseen.c", is_order_unseen=True)
 TABLE = Program(C / "examples" / "table.c", prints=EPOCHS)
 # What the examples print by which workers take names, in each language.
 WORKERS = "64 workers filled the rows 0 to 6399, each once\n"
@@ -111,6 +113,7 @@ PROGRAMS = (
     Program(C / "tests" / "next_floor.c"),
     Program(C / "tests" / "join_all_ends.c"),
     Program(C / "tests" / "slots_back.c"),
+    UNSEEN,
     Program(C / "tests" / "objects.cpp"),
     FUZZ,
 )
@@ -196,6 +199,16 @@ def has_sanitizer(compiler, sanitizer, folder):
     return True
 
 
+def page_silences(folder):
+    """The sanitizer for threads reports lanes that go from thread to thread, but not with the lines of the page."""
+    if not has_sanitizer("cc", "thread", folder):
+        raise NotTried("the sanitizer for threads is not here, so it was not silenced")
+    made, lines = compiled(UNSEEN, folder, "silenced", SANITIZERS["thread"][0]), folder / "silenced"
+    refuses([made], "data race")
+    lines.write_text("\n".join(re.findall(r"`(race:[^`]+)`", (C / "README.md").read_text())))
+    run([made], TSAN_OPTIONS=f"halt_on_error=1 suppressions={lines}")
+
+
 def sanitized(compiler, folder):
     """A case for each program of a compiler under each sanitizer; says of each whether it is there."""
     programs = [program for program in PROGRAMS if program.compiler() == compiler and not program.is_long]
@@ -222,6 +235,7 @@ def cases(compiler, folder):
     yield from sanitized(compiler, folder)
     if compiler == "cc":
         yield "bindings/c/tests/fuzz.c, valgrind", lambda: fuzz_by_valgrind(folder)
+        yield "bindings/c, sanitizer thread silenced", lambda: page_silences(folder)
         yield "the archive, least processor", lambda: run_by_least([compiled(TABLE, folder, "least", [])])
 
 
@@ -253,11 +267,11 @@ int main(void) {{
 
 
 def refuses(words, warning):
-    """A compiler refuses a program for a warning."""
+    """A command fails, and says this."""
     try:
         run(words)
     except Wrong as wrong:
         if warning in str(wrong):
             return
         raise
-    raise Wrong(f"{words[0]} does not warn of {warning}")
+    raise Wrong(f"{pathlib.Path(words[0]).name} does not say {warning!r}")
