@@ -207,9 +207,9 @@ class lane : public owner<renamer_lane, renamer_free> {
     /* Takes a lane that was handed back to this one's floor, whole. Threads may share this one, which is only asked. */
     status take_back(lane &back) const noexcept { return status(renamer_take_back(&handle, &back.handle)); }
 
-    /* Gives `own` a lane of this floor with quota left, without a lock: the one that it has, or else one that was handed
-       back; it takes in others as long as its quota is spent. If none with quota is back: status::nothing_back. So split
-       off as many lanes as threads may run at once, and hand them back before the threads begin. Let `own` be
+    /* Gives `own` a lane of this floor with quota left, without a lock: the one that it has, or else one that was
+       handed back; it takes in others as long as its quota is spent. If none with quota is back: status::nothing_back.
+       So split off as many lanes as threads may run at once, and hand them back before the threads begin. Let `own` be
        thread_local, and its lane is handed back as its thread ends. */
     status for_this_thread(lane &own) const noexcept {
         std::uint64_t left = 0;

@@ -28,7 +28,8 @@ func OpenTakes(kind Kind, width uint32) (*Taker, error) { return openTakes(kind,
 // OpenTakesApart opens one whose words lie apart, for machines of many processors.
 func OpenTakesApart(kind Kind, width uint32) (*Taker, error) { return openTakes(kind, width, 1) }
 
-// Split splits off another taker, with 2^40 names, or half of those that are left if these are fewer.
+// Split splits off another taker: with 2^40 names if more than three quarters of the floor's 2^62 are left to this one,
+// as to a first taker at its first million splits, and else with 2^20, or half of what is left.
 func (taker *Taker) Split() (*Taker, error) {
 	other := newTaker()
 	err := done(C.renamer_split_taker(&taker.handle, &other.handle))

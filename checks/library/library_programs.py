@@ -84,7 +84,8 @@ UNSEEN = Program(C / "tests" / "unseen.c", is_order_unseen=True)
 TABLE = Program(C / "examples" / "table.c", prints=EPOCHS)
 # What the examples print by which workers take names, in each language.
 WORKERS = "64 workers filled the rows 0 to 6399, each once\n"
-SLOTS = "4 threads counted to 4000 in the rows of 8 slots\n"
+STATS, CONNECTIONS = "64 threads counted to 64000 in 4 rows\n", "4000 connections had one of 16 rows each\n"
+COMPACT = "14286 of 100000 numbers are kept, without gaps\n"
 PROGRAMS = (
     Program(C / "tests" / "carried.c", is_long=True),
     Program(C / "tests" / "frozen.c", is_long=True),
@@ -93,8 +94,9 @@ PROGRAMS = (
     TABLE,
     Program(C / "examples" / "lanes.cpp", prints="3000 clients have the names 0 to 2999\n"),
     Program(C / "examples" / "workers.c", prints=WORKERS),
-    Program(C / "examples" / "workers.cpp", prints=WORKERS),
-    Program(C / "examples" / "slots.c", prints=SLOTS, is_order_unseen=True),
+    Program(C / "examples" / "stats.c", prints=STATS, is_order_unseen=True),
+    Program(C / "examples" / "connections.c", prints=CONNECTIONS, is_order_unseen=True),
+    Program(C / "examples" / "compact.cpp", prints=COMPACT, is_order_unseen=True),
     Program(C / "tests" / "names.c"),
     Program(C / "tests" / "statuses.c"),
     Program(C / "tests" / "listed.c"),

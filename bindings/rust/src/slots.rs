@@ -3,8 +3,8 @@ use crate::raw::RawLane;
 use crate::{Error, Grant, Kind};
 use std::fmt;
 
-/// Slots with the numbers 0 to n-1, each of which has one owner at most. Any thread takes one, without a lock and without
-/// memory, and it is free again once it is dropped.
+/// Slots with the numbers 0 to n-1, each of which has one owner at most. Any thread takes one, without a lock and
+/// without memory, and it is free again once it is dropped.
 ///
 /// ```
 /// use renamer::{Error, Slots};
@@ -20,8 +20,8 @@ pub struct Slots {
     first: RawLane,
 }
 
-/// A slot that is taken. It may go to another thread, and outlive its pool. Who forgets a slot loses it, and nobody else
-/// is harmed.
+/// A slot that is taken. It may go to another thread, and outlive its pool. Who forgets a slot loses it, and nobody
+/// else is harmed.
 pub struct Slot {
     /// A lane with one grant, whose name is the number of the slot.
     lane: RawLane,

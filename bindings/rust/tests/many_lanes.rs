@@ -2,7 +2,7 @@
 use renamer::{Error, Floor, Kind, Lane, Slot, Slots, MOST_CLIENTS};
 use std::cell::RefCell;
 use std::sync::{Barrier, Mutex};
-use std::{mem, thread};
+use std::thread;
 
 const NETWORKS: [Kind; 3] = Kind::ALL;
 
@@ -100,15 +100,15 @@ fn a_slot_has_one_owner_and_comes_back() {
     });
     let mut taken: Vec<_> = (0..SLOTS).map(|_| slots.take().unwrap()).collect();
     assert_eq!(slots.take().err(), Some(Error::NothingBack));
-    mem::forget(taken.pop());
+    let forgotten = taken.pop();
     drop(taken);
     let rest: Vec<_> = (1..SLOTS).map(|_| slots.take().unwrap()).collect();
     assert_eq!(slots.take().err(), Some(Error::NothingBack));
     drop(slots);
     let mut numbers: Vec<_> = rest.iter().map(Slot::number).collect();
+    numbers.extend(forgotten.iter().map(Slot::number));
     numbers.sort_unstable();
-    numbers.dedup();
-    assert!(numbers.len() == SLOTS - 1 && numbers.iter().all(|number| *number < SLOTS));
+    assert!(numbers.into_iter().eq(0..SLOTS));
     assert_eq!(Slots::open(MOST_CLIENTS + 1).err(), Some(Error::Quota));
 }
 
