@@ -1,23 +1,22 @@
-"""Whether help and the manual page show the right numbers: limits, counts, statuses and fault lines.
+"""Whether help shows the right numbers: limits, counts, statuses and fault lines.
 
-The limits are those of the law `limits_are` (crates/cn_spec/src/laws.rt), and the statuses, the fault lines and the
-names of causes those of the formats. A text is compared with the phrases that it is to have, each with its numbers
-in place: a phrase that is missing is named, and so is each number that stands in none of them.
-
-Free is only the record of a fault line, and the epoch and the name of a gap: an input is made that has the fault there.
+The limits are those of the law `limits_are` (crates/cn_spec/src/laws.rt), and the statuses and the names of causes those
+of the formats. A text is compared with the phrases that it is to have, each with its numbers in place: a phrase that is
+missing is named, and so is each number that stands in none of them. A fault line is to be one of a case of
+checks/program/cases.table, whatever its numbers are.
 """
-import dataclasses
 import pathlib
 import re
-import shlex
+import sys
 
 ROOT = pathlib.Path(__file__).resolve().parents[2]
 LAWS = ROOT / "crates" / "cn_spec" / "src" / "laws.rt"
-VERSION = ROOT / "VERSION"
+sys.path.append(str(ROOT / "checks" / "program"))
+import cases
+
+TABLE = ROOT / "checks" / "program" / "cases.table"
 # A number, in digits or as a word.
 NUMBER = re.compile(r"\d+|\b(?:two|three|four|five|six|seven|eight|nine|ten)\b")
-# So far may a record of a fault line lie, so that an input that long is soon made.
-FARTHEST = 1000
 
 
 def limits():
@@ -76,62 +75,6 @@ def phrases_of_help(job):
     }[job]
 
 
-# The forms of phrases of the manual page that have no limit.
-MANUAL = [
-    r"each epoch from 0 to k-1, by counting networks\b",
-    r"tight: 0 to k-1 in each epoch, each once\.",
-    r"identities are below 2\^64",
-    r"get the names 0 to k-1\b",
-    r"its two outputs",
-    r"token, counted from 0\b",
-    r"Record 0 is the header",
-    r"Entries are 0 to W-1\b",
-    r"a tree has (only )?entry 0\b",
-    r"grants have the names 0 to k-1\b",
-    r"for each exit, from 0 to W-1\b",
-    r"for each name, from 0 to K-1\b",
-    r"\(k - i\) / W, rounded up, and 0 if i is not below k\b",
-    r"counts C0 C1 \.\. C\(W-1\)",
-    r"the two outputs of balancer 0, then those of balancer 1\b",
-    r"the status is 0\.",
-    r"What status 3 means\b",
-    r"cut -d, -f1,2 ",
-    r'print \$2 "," \$1 ',
-    r"UTF-16 zcat; iconv -f UTF-16 -t UTF-8\b",
-    r"`0x` in a number\b",
-    r"\buint64\b",
-    r"tail -n \+2, of each\b",
-    r"-k1,1n\b",
-    r'print \$2 "," \$1 ',
-    r"tail -n \+2 FILE \| cut -d, -f1,2 ",
-    r'print "1," NR "," \$0 ',
-    r"no line and status 137:",
-    r"A word of the command line that is not UTF-8\b",
-    r"by eight workers",
-    r"A word that is not UTF-8\b",
-    r"(\b[\w-]+\([13]\),? ?){8}",
-    r"renamer-number\(1\), and",
-]
-
-
-def phrases_of_manual():
-    """The forms of the phrases with numbers that the manual page is to have, but for its statuses."""
-    limit = limits()
-    clients, records = limit["MOST_CLIENTS"], limit["MOST_RECORDS"]
-    return [
-        *MANUAL,
-        rf'^RENAMER 1 "\d{{4}}-\d\d-\d\d" "renamer {re.escape(VERSION.read_text().strip())}"',
-        rf"width of the network: {widths()}\.",
-        rf"How many workers [^:]*: 1 to {limit['MOST_WORKERS']}\. By default 1\.",
-        rf"How many clients each worker [^:]*: 1 to {limit['MOST_HAND']}\. By default 1\.",
-        rf"numbers below 2\^64 in 1 to {limit['MOST_DIGITS']} decimal digits",
-        rf"After the header come at most {records} records\.",
-        rf"epoch has at most {clients} clients, and no client twice",
-        rf"epoch has at most {clients} clients\.",
-        rf"may have {limit['MOST_NAMED']} records, as far as memory goes",
-    ]
-
-
 # What each status means, by the words that texts have for it.
 STATUSES = [
     r"done\b.*|the list is tight",
@@ -180,26 +123,6 @@ IN_CAUSES = {
 }
 
 
-def fault_lines():
-    """The forms of all lines that a fault of the program may have, in the order of the manual page."""
-    limit = limits()
-    return [
-        "renamer: record R: CAUSE",
-        "renamer: flaw: DuplicateClient record R",
-        "renamer: flaw: DuplicateName record R",
-        "renamer: flaw: Gap epoch E name M",
-        "renamer: no such network WORD; allowed: bitonic, periodic or tree",
-        f"renamer: no such width WORD; allowed: {widths()}",
-        f"renamer: no such number of workers WORD; allowed: 1 to {limit['MOST_WORKERS']}",
-        f"renamer: no such hand WORD; allowed: 1 to {limit['MOST_HAND']}",
-        "renamer: no such form WORD; allowed: report or grants",
-        "renamer: a word with control characters: WORD",
-        "renamer: memory",
-        "renamer: runtime",
-        "renamer: write after B bytes",
-    ]
-
-
 # ---- what a text says
 
 def wrong_in_prose(prose, forms):
@@ -246,95 +169,23 @@ def wrong_in_causes(job, lines):
 def wrong_in_help(job, shown):
     """What is wrong in the numbers of the help of a job, or of the program."""
     wrong = wrong_in_prose(shown.prose, phrases_of_help(job)) + wrong_in_statuses(shown.statuses, ENDS[job])
-    wrong += wrong_in_causes(job, shown.causes)
+    wrong += wrong_in_causes(job, shown.causes) + wrong_in_faults(shown.faults)
     return wrong + (wrong_in_refusals(shown.prose) if job == "replay" else [])
 
 
-def without_escapes(page):
-    """The text of a manual page without its marks for signs."""
-    return page.replace(r"\-", "-").replace(r"\e", "\\")
+# ---- fault lines
+
+def without_numbers(line):
+    return re.sub(r"\d+", "N", line)
 
 
-def without_macros(page):
-    """The lines of a manual page, which has no escapes, without its macros and the commands that it shows with their
-    output."""
-    lines = []
-    for line in re.sub(r"^    \$ .*\n(?: {4}.*\n)*", "", page, flags=re.M).splitlines():
-        macro, _, rest = line.partition(" ") if line.startswith(".") else ("", "", line)
-        # Such a macro sets its words by turns in two types, with nothing between them.
-        lines.append("".join(shlex.split(rest)) if re.fullmatch(r"\.[BIR]{2}", macro) else rest)
-    return lines
+def fault_lines():
+    """The forms of the fault lines that the program has in a case."""
+    errors = (case.wanted_errors.decode(errors="replace") for case in cases.read(TABLE.read_text()))
+    return {without_numbers(line) for error in errors for line in error.splitlines()}
 
 
-def wrong_in_manual(page, tables):
-    """What is wrong in the numbers, statuses, fault lines and causes of the manual page, which has these tables of help
-    word for word."""
-    page, wrong = without_escapes(page), []
-    for table in tables:
-        text = "\n".join(table)
-        if page.count(f"{text}\n") != 1:
-            wrong.append(f"it has not once, as help has it: {text}")
-        page = page.replace(text, "")
-    lines = without_macros(page)
-    text = "\n".join(lines)
-    status = re.search(r"^EXIT STATUS\n(.*?)^DIAGNOSTICS\n(.*?)^EXAMPLES$", text, re.M | re.S)
-    if not status:
-        return [*wrong, "it has no exit statuses and diagnostics"]
-    pairs = re.findall(r"^(\d+)\n(.*?)(?=^\d+\n|\Z)", status.group(1), re.M | re.S)
-    statuses = [(int(number), " ".join(words.split())) for number, words in pairs]
-    wrong += wrong_in_statuses(statuses, ENDS["renamer"])
-    faults = fault_lines()
-    if [line for line in lines if line.startswith("renamer: ")] != faults:
-        wrong.append(f"its fault lines are not {faults}")
-    wrong += wrong_in_refusals(text)
-    prose = " ".join(line for line in re.sub(r"^\d$", "", text, flags=re.M).splitlines() if line not in faults)
-    prose = " ".join(prose.split())
-    return wrong + wrong_in_prose(prose, phrases_of_manual())
-
-
-# ---- fault lines of help
-
-@dataclasses.dataclass
-class Fault:
-    """A command, an input at which it has a fault, and the status that it then ends with."""
-
-    command: str
-    input: str
-    status: int
-
-
-def records_before(record, text):
-    """Records 1, 2, .. up to one before this record, each with its number for `#`, and one less for `@`."""
-    numbers = range(1, record)
-    return [text.replace("#", str(number)).replace("@", str(number - 1)) for number in numbers]
-
-
-def grants_with_gap(epoch, name):
-    """Grants of an epoch that lacks this name and no other one."""
-    names = [*range(name), name + 1]
-    return [f"{epoch},{client},{one}" for client, one in enumerate(names)]
-
-
-# The jobs' fault lines that help may show: the form of the line, and the records of an input that has the fault there.
-MADE = {
-    "run": [(r"renamer: record (\d+): Duplicate", 1, lambda at: [*records_before(at, "1,#,0"), "1,1,0"])],
-    "replay": [(r"renamer: record (\d+): Op", 1, lambda at: [*records_before(at, "enter,#,0"), "leave,1,"])],
-    "check": [
-        (r"renamer: record (\d+): Form", 1, lambda at: [*records_before(at, "1,#,@"), "1,x,0"]),
-        (r"renamer: flaw: DuplicateClient record (\d+)", 4, lambda at: [*records_before(at, "1,#,@"), f"1,1,{at}"]),
-        (r"renamer: flaw: DuplicateName record (\d+)", 4, lambda at: [*records_before(at, "1,#,@"), f"1,{at},0"]),
-        (r"renamer: flaw: Gap epoch (\d+) name (\d+)", 4, grants_with_gap),
-    ],
-}
-HEADERS = {"run": "epoch,client,entry", "replay": "op,client,wire", "check": "epoch,client,name"}
-
-
-def made_fault(job, line):
-    """The command, and the input, by which a job is to write this fault line; none is known of other lines."""
-    for form, status, records in MADE.get(job, []):
-        found = re.fullmatch(form, line)
-        if found and all(int(number) <= FARTHEST for number in found.groups()):
-            options = "--width 4" if job == "check" else "--network bitonic --width 4"
-            lines = [HEADERS[job], *records(*map(int, found.groups()))]
-            return Fault(f"renamer {job} {options}", "".join(f"{one}\n" for one in lines), status)
-    return None
+def wrong_in_faults(lines):
+    """Each fault line of help that no case has."""
+    known = fault_lines()
+    return [f"no case has the fault line: {line}" for line in lines if without_numbers(line) not in known]
