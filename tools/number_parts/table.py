@@ -107,11 +107,7 @@ class Table:
     def blocks(self):
         """Yields the rows after the header."""
         while text := self.file.read(BLOCK) + self.file.readline():
-            rows = self.plain(text)
-            if not rows:
-                rows = self.parsed(text)
-                self.refuse_odd(rows)
-            yield rows
+            yield self.plain(text) or self.parsed(text)
 
     def plain(self, text: bytes) -> Plain | None:
         """Returns the rows of a text if they are plain."""
