@@ -124,6 +124,12 @@ class Reader:
         elif mark == "fails":
             self.begin(f"to fail at {rest}")
             self.fails(rest)
+        elif mark == "unwritten":
+            self.begin(f"to write {rest}")
+            output, _, ended = rest.partition(" ")
+            words, _, lines = ended.partition(" < ")
+            self.fails(f"{words} < {lines} ! write after 0 bytes")
+            self.stream("output", output)
         elif mark == "helps":
             self.begin(f"to help with {rest}")
             self.case.words = rest.split()

@@ -37,6 +37,8 @@ READ = [
                                 "wanted_errors": b"no x\n"}),
     ("fails run < a b ! record 1: B\n", {"name": "to fail at run < a b ! record 1: B", "words": ["run"], "status": 1,
                                          "given": b"a\nb\n", "wanted_errors": b"renamer: record 1: B\n"}),
+    ("unwritten full run < a\n", {"name": "to write full run < a", "words": ["run"], "status": 3, "output": "full",
+                                  "given": b"a\n", "wanted_errors": b"renamer: write after 0 bytes\n"}),
     ("helps help run\n", {"name": "to help with help run", "words": ["help", "run"], "open_output": True,
                           "texts": ["Usage: renamer"]}),
 ]
