@@ -1,6 +1,5 @@
 """What a release is made of, and how its check reads and runs that (checks/long/release)."""
 import os
-import pathlib
 import re
 import shutil
 import signal
@@ -32,8 +31,6 @@ BUILT = tuple(f"crates/{crate}/out/{file}" for crate, files in (
 CRATE = re.compile(r"(?<![\w:])([a-z]\w*)::")
 # A root is changed by a user who may not do so in a space of names of its own.
 AS_ROOT = [] if os.getuid() == 0 else ["unshare", "--map-root-user"]
-# What runs a container from a Containerfile.
-CONTAINERS = ("docker", "podman")
 # The commands of examples/README.md that are tried: the words, the file that is read, and what is printed.
 EXAMPLE = re.compile(r"^    \$ renamer ([\w -]+) < (examples/\S+)\n((?:    .*\n)+)", re.M)
 
@@ -75,14 +72,6 @@ def add_libraries(root, program):
         place = root / path[1:]
         place.parent.mkdir(parents=True, exist_ok=True)
         shutil.copy(os.path.realpath(path), place)
-
-
-def container_tool():
-    """What runs containers here, if it is here and runs any."""
-    for tool in filter(shutil.which, CONTAINERS):
-        if subprocess.run([tool, "info"], stdin=subprocess.DEVNULL, capture_output=True).returncode == 0:
-            return tool
-    return None
 
 
 def in_root(root, program):
