@@ -10,7 +10,7 @@ import library_python
 from library_programs import ARM, ARM_CC, ARM_HOME, ARM_RUN, TABLE, NotTried, Wrong, compiled, run, run_by_least
 from release_made import Made
 from released import (ARM_NAME, AS_ROOT, AT_TOP, PACKAGES, ROOT, VERSION, WHEEL, add_libraries, do_examples, files, in_root,
-                      kill_install, status_of)
+                      status_of)
 
 
 class Used(Made):
@@ -91,19 +91,6 @@ class Used(Made):
         run([place / "usr" / "share" / "renamer" / "check"], self.folder)
         run([self.tree / "install", "--remove", "/usr"], DESTDIR=str(place))
         if files(place):
-            raise Wrong(f"this is left: {files(place)}")
-
-    def install_may_be_killed(self):
-        """By -9, while it copies, or takes away what is there: it is repeated, and what it left is taken away."""
-        place, install = self.folder / "killed", [self.tree / "install", "/usr"]
-        made, own = place / "usr" / "share" / "renamer" / "installed", {"DESTDIR": str(place)}
-        kill_install(install, made, 500, **own)
-        run(install, **own)
-        if lacking := (files(self.tree) ^ files(place / "usr")) - AT_TOP - {"share/renamer/installed"}:
-            raise Wrong(f"repeated it copies otherwise {lacking}")
-        kill_install(install, made, 1, **own)
-        run([install[0], "--remove", "/usr"], **own)
-        if list(place.rglob("*")):
             raise Wrong(f"this is left: {files(place)}")
 
     def commands_run_elsewhere(self):

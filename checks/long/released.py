@@ -2,7 +2,6 @@
 import os
 import re
 import shutil
-import signal
 import subprocess
 
 import crates_txt
@@ -90,16 +89,3 @@ def do_examples(program):
             raise Wrong(f"{words} < {name}: status {done.returncode}, {done.stderr or done.stdout}")
     if run([*program, "--version"]) != f"renamer {VERSION}\n":
         raise Wrong("it is of another version")
-
-
-def kill_install(install, list_of_files, lines, **environment):
-    """Begins an install, and kills it and its children when its list has so many lines."""
-    begun = subprocess.Popen(list(map(str, install)), env={**os.environ, **environment}, stdin=subprocess.DEVNULL,
-                             stdout=subprocess.DEVNULL, stderr=subprocess.DEVNULL, start_new_session=True)
-    has_them = False
-    while not has_them and begun.poll() is None:
-        has_them = list_of_files.exists() and list_of_files.read_text().count("\n") >= lines
-    if begun.poll() is not None:
-        raise Wrong(f"it ended before its list had {lines} lines")
-    os.killpg(begun.pid, signal.SIGKILL)
-    begun.wait()
