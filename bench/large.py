@@ -12,7 +12,6 @@ import dataclasses
 import re
 import shutil
 import statistics
-import sys
 
 import measure
 

@@ -195,10 +195,6 @@ class Bench:
                 spent[which].append(self.run(*jobs[which]))
         return spent
 
-    def medians(self, jobs, rounds):
-        """The median processor times of jobs that run in turn."""
-        return [statistics.median(one.processor for one in runs) for runs in self.in_turn(jobs, rounds)]
-
     def compare(self, name, jobs, rounds, by="processor"):
         """The first job's time to the second's."""
         return ratio(name, self.in_turn(jobs, rounds), by)

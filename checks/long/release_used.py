@@ -7,18 +7,20 @@ import sys
 import textwrap
 
 import library_python
-import library_readme
 from library_programs import ARM, ARM_CC, ARM_HOME, ARM_RUN, TABLE, NotTried, Wrong, compiled, run, run_by_least
 from release_made import Made
-from released import (ARM_NAME, AS_ROOT, AT_TOP, PACKAGES, ROOT, VERSION, WHEEL, add_libraries, container_tool,
-                      do_examples, files, in_root, kill_install, status_of)
+from released import (ARM_NAME, AS_ROOT, AT_TOP, PACKAGES, ROOT, VERSION, WHEEL, add_libraries, do_examples, files, in_root,
+                      status_of)
 
 
 class Used(Made):
     """What was unpacked, built with, run and installed."""
 
     def runs_in_an_empty_root(self):
-        """What the Containerfile says is done by hand."""
+        """What the Containerfile says, as INSTALL.md shows it, is done by hand."""
+        shown = textwrap.indent((self.tree / "Containerfile").read_text(), "    ")
+        if f"\n\n{shown}\n" not in (self.pages / "docs" / "INSTALL.md").read_text():
+            raise Wrong("INSTALL.md does not show the Containerfile")
         first, copied = (self.tree / "Containerfile").read_text().splitlines()
         source, to = re.fullmatch(r"COPY (\S+) /(\S+)/", copied).groups()
         if first != "FROM scratch":
@@ -26,20 +28,6 @@ class Used(Made):
         (self.folder / "empty" / to).mkdir(parents=True)
         shutil.copy(self.tree / source, self.folder / "empty" / to)
         do_examples(in_root(self.folder / "empty", f"/{to}/{pathlib.Path(source).name}"))
-
-    def runs_in_a_container(self):
-        """By the commands that INSTALL.md shows."""
-        tool, page = container_tool(), (self.pages / "docs" / "INSTALL.md").read_text()
-        if f"\n\n{textwrap.indent((self.tree / 'Containerfile').read_text(), '    ')}\n" not in page:
-            raise Wrong("INSTALL.md does not show the Containerfile")
-        build, start = re.search(r"^    docker (build .*)\n    docker (run .*) run .* < ", page, re.M).groups()
-        if not tool:
-            raise NotTried("neither docker nor podman runs one here; what its file says was tried in an empty root")
-        # With another name than a user's own image.
-        image = f"renamer-tried-{os.getpid()}"
-        run([tool, *build.replace("-t renamer", f"-t {image}").split()], self.tree)
-        do_examples([tool, *start.replace("-i renamer", f"-i {image}").split()])
-        run([tool, "image", "rm", image])
 
     def runs_on_arm(self):
         """The program prints what the page of examples shows, and examples in C run, with each form of the library."""
@@ -86,13 +74,6 @@ class Used(Made):
         if lacking := [name for name in wanted if f"/{name}\n" not in packed]:
             raise Wrong(f"it lacks {lacking}")
 
-    def programs_are_built_with_it(self):
-        """Each program of a page, with the archive, the headers and the crate that were unpacked, and no kit."""
-        library_readme.OUT = self.pages / "out"
-        library_readme.RUST = self.tree / "share" / "renamer" / "rust"
-        for name in library_readme.PROGRAMS:
-            library_readme.check(name, self.folder)
-
     def checks_itself(self):
         printed = run([self.tree / "share" / "renamer" / "check"], self.folder)
         if not re.search(r"^\d+ passed, 0 failed\n\Z", printed, re.M):
@@ -110,19 +91,6 @@ class Used(Made):
         run([place / "usr" / "share" / "renamer" / "check"], self.folder)
         run([self.tree / "install", "--remove", "/usr"], DESTDIR=str(place))
         if files(place):
-            raise Wrong(f"this is left: {files(place)}")
-
-    def install_may_be_killed(self):
-        """By -9, while it copies, or takes away what is there: it is repeated, and what it left is taken away."""
-        place, install = self.folder / "killed", [self.tree / "install", "/usr"]
-        made, own = place / "usr" / "share" / "renamer" / "installed", {"DESTDIR": str(place)}
-        kill_install(install, made, 500, **own)
-        run(install, **own)
-        if lacking := (files(self.tree) ^ files(place / "usr")) - AT_TOP - {"share/renamer/installed"}:
-            raise Wrong(f"repeated it copies otherwise {lacking}")
-        kill_install(install, made, 1, **own)
-        run([install[0], "--remove", "/usr"], **own)
-        if list(place.rglob("*")):
             raise Wrong(f"this is left: {files(place)}")
 
     def commands_run_elsewhere(self):

@@ -1,9 +1,7 @@
 """What a release is made of, and how its check reads and runs that (checks/long/release)."""
 import os
-import pathlib
 import re
 import shutil
-import signal
 import subprocess
 
 import crates_txt
@@ -32,8 +30,6 @@ BUILT = tuple(f"crates/{crate}/out/{file}" for crate, files in (
 CRATE = re.compile(r"(?<![\w:])([a-z]\w*)::")
 # A root is changed by a user who may not do so in a space of names of its own.
 AS_ROOT = [] if os.getuid() == 0 else ["unshare", "--map-root-user"]
-# What runs a container from a Containerfile.
-CONTAINERS = ("docker", "podman")
 # The commands of examples/README.md that are tried: the words, the file that is read, and what is printed.
 EXAMPLE = re.compile(r"^    \$ renamer ([\w -]+) < (examples/\S+)\n((?:    .*\n)+)", re.M)
 
@@ -77,14 +73,6 @@ def add_libraries(root, program):
         shutil.copy(os.path.realpath(path), place)
 
 
-def container_tool():
-    """What runs containers here, if it is here and runs any."""
-    for tool in filter(shutil.which, CONTAINERS):
-        if subprocess.run([tool, "info"], stdin=subprocess.DEVNULL, capture_output=True).returncode == 0:
-            return tool
-    return None
-
-
 def in_root(root, program):
     """The words by which a program runs in a root."""
     return [*AS_ROOT, shutil.which("chroot", path="/usr/sbin:/usr/bin"), root, program]
@@ -101,16 +89,3 @@ def do_examples(program):
             raise Wrong(f"{words} < {name}: status {done.returncode}, {done.stderr or done.stdout}")
     if run([*program, "--version"]) != f"renamer {VERSION}\n":
         raise Wrong("it is of another version")
-
-
-def kill_install(install, list_of_files, lines, **environment):
-    """Begins an install, and kills it and its children when its list has so many lines."""
-    begun = subprocess.Popen(list(map(str, install)), env={**os.environ, **environment}, stdin=subprocess.DEVNULL,
-                             stdout=subprocess.DEVNULL, stderr=subprocess.DEVNULL, start_new_session=True)
-    has_them = False
-    while not has_them and begun.poll() is None:
-        has_them = list_of_files.exists() and list_of_files.read_text().count("\n") >= lines
-    if begun.poll() is not None:
-        raise Wrong(f"it ended before its list had {lines} lines")
-    os.killpg(begun.pid, signal.SIGKILL)
-    begun.wait()

@@ -12,8 +12,9 @@ ROOT = pathlib.Path(__file__).resolve().parents[2]
 OUTPUTS = ("file", "full", "broken", "closed")
 ERRORS = ("file", "full", "closed")
 INPUTS = ("file", "folder", "closed", "terminal", "pipe")
-# The status of a fault line of the program, by how it begins.
-STATUSES = {b"record ": 1, b"no such ": 2, b"a word with ": 2, b"write after ": 3, b"memory": 3, b"flaw: ": 4}
+# The status of a fault line of the program or of `number`, by how it begins behind the name.
+STATUSES = {b"record ": 1, b"standard input": 1, b"../": 1, b"no such ": 2, b"a word with ": 2, b"write after ": 3,
+            b"memory": 3, b"flaw: ": 4}
 # What a case may limit.
 LIMITS = ("growths", "bytes", "writes", "error_writes")
 
@@ -96,8 +97,10 @@ def lines_of(rest, given):
 
 
 def status_of(errors):
-    """The status of a run that says this, if it is a fault line of the program."""
-    return next((status for line, status in STATUSES.items() if errors.startswith(b"renamer: " + line)), 0)
+    """The status of a run that says this, if it is such a fault line."""
+    name, _, said = errors.partition(b": ")
+    is_known = name in (b"renamer", b"number")
+    return next((status for line, status in STATUSES.items() if is_known and said.startswith(line)), 0)
 
 
 class Reader:
