@@ -12,7 +12,6 @@ use Rattle.cn_walk.specs.Walks.{WalksAll}
 use Rattle.renamer_c.specs.Questions.{AreGrantsFrom}
 use Rattle.renamer_c.specs.declared.client.Client.{Client}
 use Rattle.renamer_c.specs.declared.granting.Grant.{Grant}
-use Rattle.renamer_c.specs.declared.held_lane.by_entry.TheConstants.{TOGETHER}
 
 -- a client of a list of C's
 abbrev pub client_from : Client → ledger.Client
@@ -45,7 +44,7 @@ pub record AreNamedAtOnce (old new : LaneValue) (ids : List ℕ) (entry : ℕ) :
 -- clients of a list are named by runs of these lengths, one after the other, each as long as it can be
 abbrev pub AreNamedByRuns : List ℕ → LaneValue → LaneValue → List Client → Type 0
 AreNamedByRuns [] old new clients = (clients ≡ []) × (new ≡ old)
-AreNamedByRuns (n ∷ ns) old new clients = (next : LaneValue) × (entry : ℕ) × IsLongestRun clients entry TOGETHER n
+AreNamedByRuns (n ∷ ns) old new clients = (next : LaneValue) × (entry : ℕ) × IsLongestRun clients entry 64 n
     × AreNamedAtOnce old next (map (λ c. c.client) (take n clients)) entry × AreNamedByRuns ns next new (drop n clients)
 
 -- clients came in and left: a grant more for each, and no name stands twice in the lane; they are named by runs, by the
