@@ -1,5 +1,2 @@
 mod Naming
 mod FilledSlots
-mod Ranges
-mod Inverses
-mod Marking

@@ -1,4 +1,2 @@
 pub mod Naming
 pub mod Slots
-pub mod Tables
-pub mod Marks

@@ -1,7 +1,6 @@
 -- What a taker keeps.
-use Rattle.std.specs.Prelude.{◌≡◌, ◌+◌, ◌≤◌, [], length, replicate}
+use Rattle.std.specs.Prelude.{◌≡◌, [], length, replicate}
 use Rattle.cn_floor.specs.declared.floor.taker.Taker.TheInside.{Inside}
-use Rattle.cn_spec.specs.declared.limits.TheConstants.{MOST_TAKEN}
 use Rattle.cn_floor.specs.Taking.{TakerValue}
 
 -- a taker as contracts see it
@@ -17,5 +16,3 @@ pub record IsTaker (t : Inside) : Type 0 where
   pub idle : t.seat.me.0.loads ≡ []
   pub out : t.seat.me.0.tokens ≡ replicate (length t.seat.me.0.start.network.table.ends) []
   pub quota : t.quota ≡ t.seat.me.0.quota
-  pub taken : t.taken ≡ length t.seat.me.0.grants
-  pub few : t.quota + t.taken ≤ MOST_TAKEN

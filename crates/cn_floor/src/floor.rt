@@ -42,7 +42,6 @@ pub use shared_floor::SharedFloor;
 use std::alloc::Global;
 use std::marker::Model;
 pub use taker::Taker;
-pub use taker_floor::TakersMissing;
 pub use words::Words;
 
 /// A counting network on atomic words, which lanes share: one word for each entry, each balancer and each exit. A

@@ -9,8 +9,8 @@ mod view;
 
 pub use fault::{JoinFault, LaneFault, OpenFault, SplitFault};
 pub use floor::{
-    CloseFault, ClosedFloor, Floor, Lane, Leftovers, Quiet, Receipts, SharedFloor, Taker,
-    TakersMissing, Words, walk_one,
+    CloseFault, ClosedFloor, Floor, Lane, Leftovers, Quiet, Receipts, SharedFloor, Taker, Words,
+    walk_one,
 };
 pub use gate::{Gate, Moment, OpenGate};
 pub use view::{Grant, Opening, Passage, Start, Sweep, View};

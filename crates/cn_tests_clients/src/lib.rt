@@ -7,10 +7,6 @@ mod clients;
 #[cfg(test)]
 mod held;
 #[cfg(test)]
-mod marks;
-#[cfg(test)]
 mod named;
 #[cfg(test)]
 mod slots;
-#[cfg(test)]
-mod tables;

@@ -1,11 +1,11 @@
 //! Slots that two threads fill by name, by the caller of cn_clients.
 
-use crate::tables::started;
 use cn_clients::{Filled, fill_by_two};
 use cn_floor::Floor;
 use cn_tree::tree;
 use cn_wiring::Counting;
 use std::alloc::Global;
+use std::fs;
 use std::rt::Files;
 use std::sync::OnceLock;
 use std::thread::Threads;
@@ -14,10 +14,10 @@ use std::thread::Threads;
 const CLIENTS: u64 = 2000;
 
 /// How many slots there are.
-pub(crate) const SLOTS: usize = 2100;
+const SLOTS: usize = 2100;
 
 /// Slots that nobody filled.
-pub(crate) fn empty_slots(alloc: Global) -> Option<Vec<OnceLock<u64>>> {
+fn empty_slots(alloc: Global) -> Option<Vec<OnceLock<u64>>> {
     let mut slots = Vec::with_capacity(alloc, SLOTS).ok()?;
     for _ in 0..SLOTS {
         slots.push(OnceLock::new()).ok()?;
@@ -26,7 +26,7 @@ pub(crate) fn empty_slots(alloc: Global) -> Option<Vec<OnceLock<u64>>> {
 }
 
 /// Whether each slot that was filled holds its client.
-pub(crate) fn are_held(filled: &Vec<Filled<'_>>) -> bool {
+fn are_held(filled: &Vec<Filled<'_>>) -> bool {
     let mut all = true;
     for one in filled {
         all &= one.read() == one.client;
@@ -87,6 +87,17 @@ fn two_threads_fill_the_first_slots(rt: HostRuntime) {
         filled(&rt, alloc, 1990),
     ];
     assert_eq!(rt; found, [Some([true, true]); 3]);
+}
+
+/// How many processes and threads the system has started so far.
+pub(crate) fn started<R: Files + AllocGlobal>(rt: &R) -> Option<u64> {
+    let text = fs::read_to_string(rt, "/proc/stat").ok()?;
+    for line in text.lines() {
+        if let Some(number) = line.strip_prefix("processes ") {
+            return number.parse().ok();
+        }
+    }
+    None
 }
 
 /// How many threads are started for both. Others start some too: so it is the least of 200 tries.

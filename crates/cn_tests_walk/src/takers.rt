@@ -1,9 +1,8 @@
-//! Names that takers take, on floors that go on from words.
+//! Names that takers take.
 
-ghost use Rattle.std.specs.Prelude.{◌≡◌, IfSome};
+ghost use Rattle.std.specs.Prelude.{◌≡◌};
 
-use cn_floor::{Floor, LaneFault, SplitFault, Taker, TakersMissing, Words};
-use cn_spec::limits::MOST_TAKEN;
+use cn_floor::{Floor, LaneFault, SplitFault, Taker, Words};
 use cn_tree::tree;
 use std::alloc::Global;
 
@@ -43,10 +42,9 @@ fn refused(floor: &Floor<'_>, taker: &mut Taker) -> [Option<LaneFault>; 2]
     [entry, quota]
 }
 
-/// The seven names, and both takers.
-fn take_seven(floor: &Floor<'_>, mut taker: Taker) -> Option<(Took, Taker, Taker)>
+/// The seven names.
+fn take_seven(floor: &Floor<'_>, mut taker: Taker) -> Option<Took>
     requires { taker.home ≡ floor.now }
-    ensures { IfSome result (λ r. (r.1.home ≡ floor.now) × (r.2.home ≡ floor.now)) }
 {
     let (two, list) = take_six(floor, &mut taker)?;
     let Ok(mut other) = floor.split_off_taker(&mut taker, 1) else {
@@ -56,45 +54,22 @@ fn take_seven(floor: &Floor<'_>, mut taker: Taker) -> Option<(Took, Taker, Taker
     let refused = refused(floor, &mut taker);
     let too_small = floor.split_off_taker(&mut taker, 1).err();
     let begun = floor.takes_begun(&mut taker);
-    let took = Took {
+    Some(Took {
         two,
         list,
         other: one,
         begun,
         refused,
         too_small,
-    };
-    Some((took, taker, other))
+    })
 }
 
-/// The first name of a floor that goes on from these words, for the most takes, and how many clients they count.
-fn next_name(alloc: Global, words: Words<'_>) -> Option<(u64, u64)> {
-    let clients = words.clients();
-    if clients > MOST_TAKEN {
-        return None;
-    }
-    let (floor, mut taker) = Floor::open_for_takers(alloc, words, MOST_TAKEN).ok()?;
-    Some((clients, floor.take(&mut taker, 0).ok()?))
-}
-
-/// What is taken on a tree of width 4, and the first name of the next floor.
-fn taken(alloc: Global) -> Option<(Took, (u64, u64))> {
+/// What is taken on a tree of width 4.
+fn taken(alloc: Global) -> Option<Took> {
     let network = tree(alloc, 4).ok()?;
     let words = Words::zero(alloc, &network).ok()?;
     let (floor, taker) = Floor::open_for_takers(alloc, words, 7).ok()?;
-    let (took, mut taker, other) = take_seven(&floor, taker)?;
-    floor.join_taker(&mut taker, other);
-    let words = floor.close_for_words(taker).ok()?;
-    Some((took, next_name(alloc, words)?))
-}
-
-/// Why the floor is not closed without the other taker.
-fn missing(alloc: Global) -> Option<TakersMissing> {
-    let network = tree(alloc, 4).ok()?;
-    let words = Words::zero(alloc, &network).ok()?;
-    let (floor, taker) = Floor::open_for_takers(alloc, words, 7).ok()?;
-    let (_took, taker, _other) = take_seven(&floor, taker)?;
-    floor.close_for_words(taker).err()
+    take_seven(&floor, taker)
 }
 
 #[test]
@@ -107,14 +82,5 @@ fn two_takers_take_seven_names(rt: HostRuntime) {
         refused: [Some(LaneFault::NoSuchEntry), Some(LaneFault::QuotaSpent)],
         too_small: Some(SplitFault::QuotaTooSmall),
     };
-    assert_eq!(rt; taken(rt.alloc()), Some((took, (7, 0))));
-}
-
-#[test]
-fn the_other_taker_is_missing(rt: HostRuntime) {
-    let missed = TakersMissing {
-        entered: 7,
-        taken: 6,
-    };
-    assert_eq!(rt; missing(rt.alloc()), Some(missed));
+    assert_eq!(rt; taken(rt.alloc()), Some(took));
 }

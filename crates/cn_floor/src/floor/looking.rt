@@ -1,5 +1,4 @@
-//! For callers in Rattle: two lanes of one floor, or two takers, looked at together. Neither the program nor the
-//! library asks this.
+//! For callers in Rattle: two lanes of one floor, looked at together. Neither the program nor the library asks this.
 
 ghost use Rattle.std.specs.Prelude.{◌≡◌};
 ghost use Rattle.cn_floor.specs.Steps.{IsAnswer};
@@ -7,7 +6,6 @@ ghost use Rattle.cn_floor.specs.Together.{HaveDistinctNames, StoodAsOne, first_a
 
 use super::Floor;
 use super::lane::Lane;
-use super::taker::Taker;
 use std::marker::Brand;
 
 impl<'a> Floor<'a> {
@@ -48,26 +46,5 @@ impl<'a> Floor<'a> {
             room,
         };
         (lane, other, entered)
-    }
-
-    /// Looks at two takers at one moment, as [`Floor::look_at_both`] does at two lanes: no name of one is a name of the
-    /// other, and none was taken twice; each is below the answer, how many takes have begun, and so below every later
-    /// one of either taker ([`Floor::takes_begun`]).
-    pub fn look_at_both_takers(&self, mut taker: Taker, other: Taker) -> (Taker, Taker, u64)
-        requires own { (taker.home ≡ self.now) × (other.home ≡ self.now) }
-        ensures first { result.0
-            ≡ record taker { view = first_after self.now.start result.2 taker.view } }
-        ensures second { result.1 ≡ record other { view = second_after result.2 other.view } }
-        ensures distinct { HaveDistinctNames result.0.view result.1.view }
-        ensures answer { IsAnswer self.now.start taker.view result.2
-            × IsAnswer self.now.start other.view result.2 }
-        ensures in_state { StoodAsOne self.now.start result.0.view result.1.view result.2 }
-    {
-        let Taker { seat, quota, taken } = other;
-        let (seat, begun) = self
-            .counters
-            .look_at_both::<Brand>(&mut taker.seat, seat, self.base);
-        let other = Taker { seat, quota, taken };
-        (taker, other, begun)
     }
 }

@@ -3,7 +3,7 @@
 ghost use Rattle.std.specs.Prelude.{◌≡◌, ℕ, ◌-◌, ◌<◌, ◌≤◌, ◌↔◌, List, length, IfOk, IsErrOf, OnErr, OnOk};
 ghost use Rattle.cn_floor.specs.Steps.{IsAnswer, StoodInState};
 ghost use Rattle.cn_floor.specs.Taking.{AreTaken, AreWritten, IsTaken, empty_taker};
-ghost use Rattle.cn_floor.specs.Views.{after_entered, after_join, after_look, after_split, split_off};
+ghost use Rattle.cn_floor.specs.Views.{after_entered, after_look, after_split, split_off};
 
 use super::Floor;
 use super::passing::Party;
@@ -11,7 +11,6 @@ use super::taker::Taker;
 use crate::fault::{LaneFault, SplitFault};
 use crate::gate::NoPause;
 use cn_exit::name_of;
-use std::marker::Brand;
 
 /// Tokens of whatever clients.
 #[derive(Clone, Copy)]
@@ -85,7 +84,6 @@ impl<'a> Floor<'a> {
         }
         let grant = self.grant_one(network, &mut taker.seat, 0, entry as u32, &NoPause);
         taker.quota -= 1;
-        taker.taken += 1;
         Ok(grant.name)
     }
 
@@ -112,30 +110,7 @@ impl<'a> Floor<'a> {
         }
         let seat = self.split_seat(&mut taker.seat, quota);
         taker.quota -= quota;
-        Ok(Taker {
-            seat,
-            quota,
-            taken: 0,
-        })
-    }
-
-    /// Takes the second taker into the first. It takes no memory, and refuses nothing.
-    pub fn join_taker(&self, taker: &mut Taker, other: Taker)
-        requires own { (taker.old.home ≡ self.now) × (other.home ≡ self.now) }
-        ensures joined { taker.new
-            ≡ record taker.old { view = after_look (after_join taker.old.view other.view) } }
-        ensures in_state { StoodInState self.now.start taker.new.view }
-    {
-        self.start_laws();
-        let Taker {
-            seat: other_seat,
-            quota,
-            taken,
-        } = other;
-        self.counters.join(&mut taker.seat, other_seat);
-        self.counters.look::<Brand>(&mut taker.seat);
-        taker.quota += quota;
-        taker.taken += taken;
+        Ok(Taker { seat, quota })
     }
 
     /// How many clients came in since the floor began, by all takers, as far as one can see ([`Floor::entered`]).
@@ -191,7 +166,6 @@ impl<'a> Floor<'a> {
             entry,
         );
         taker.quota -= count;
-        taker.taken += count;
         Ok(())
     }
 }

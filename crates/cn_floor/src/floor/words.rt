@@ -1,22 +1,20 @@
 //! The words of closed floors, and how words lie in memory.
 
 ghost use Rattle.std.specs.Arc.{arc_value};
-ghost use Rattle.std.specs.Mem.Slots.{slots_items, IsFull};
 ghost use Rattle.std.specs.Prelude.{◌≡◌, ◌<◌, None, length, IfOk, IfSome};
 ghost use Rattle.cn_wiring.specs.declared.end.End.TheVariants.{Balancer, Exit};
 ghost use Rattle.cn_floor.specs.Carried.{AreTight, IsClosed, client_count, zero_words};
 ghost use Rattle.cn_floor.specs.Ends.{words_after};
 ghost use Rattle.cn_floor.specs.Spacing.{stride_of};
-ghost use Rattle.cn_floor.specs.Spread.{IsSpaced, IsStride, words_in};
+ghost use Rattle.cn_floor.specs.Spread.{IsStride};
 ghost use Rattle.cn_floor.specs.declared.floor.counters.TheConstants.{MOST_STRIDE};
 ghost use Rattle.cn_floor.specs.Words.{IsDifference, NoneWent, count_in, entered_in};
 
 use super::closed_floor::ClosedFloor;
 use super::counters::MOST_STRIDE;
 use super::network_ref::NetworkRef;
-use super::reading::{copy_words, rise};
+use super::reading::rise;
 use super::zeros;
-use atomic_table::Closed;
 use cn_wiring::Counting;
 use std::alloc::{AllocError, Global};
 use std::marker::Model;
@@ -150,27 +148,6 @@ impl<'a> Words<'a> {
         closed.closed_laws();
         closed.copy_words(&mut self.words);
         self.clients = closed.clients;
-        self
-    }
-
-    /// These words, overwritten by those of a closed table over the same network, with the number of all their clients.
-    /// They lie as before.
-    pub(super) fn filled(
-        mut self,
-        table: &Closed<(), Global>,
-        stride: usize,
-        clients: u64,
-    ) -> Words<'a>
-        requires spaced { IsSpaced stride (slots_items table.now.words) }
-        requires full { IsFull table.now.words }
-        requires places { length self.words ≡ length (words_in stride (slots_items table.now.words)) }
-        requires closed { IsClosed (record self { words = words_in stride (slots_items table.now.words) }) }
-        requires clients { clients
-            ≡ client_count (record self { words = words_in stride (slots_items table.now.words) }) }
-        ensures { result ≡ record self.entry { words = words_in stride (slots_items table.now.words) } }
-    {
-        copy_words(table, stride, &mut self.words);
-        self.clients = clients;
         self
     }
 

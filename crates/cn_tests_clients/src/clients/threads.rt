@@ -1,7 +1,7 @@
 //! How many threads name the clients of two.
 
 use super::named;
-use crate::tables::started;
+use crate::slots::started;
 use std::alloc::Global;
 use std::rt::Files;
 use std::thread::Threads;

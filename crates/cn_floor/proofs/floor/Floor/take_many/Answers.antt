@@ -46,10 +46,6 @@ invariant_of-taker c =
     let was = c.taker.invariant in
     let came = c.come_in.ensures.came in
     let left = c.pass_all.ensures.left in
-    let (more, grew, theirs) = left.grants in
-    let many : length x.grants ≡ length v.grants + k =
-    ap length grew ∙ length-append w.grants more
-    ∙ (λ i. length (came.grants i) + (theirs.as_many ∙ ap length came.there ∙ placed-many clients 0 1 k) i) in
     record {
       no_slot = c.pass_all.ensures.seat.1;
       idle = left.loads ∙ came.loads ∙ was.idle;
@@ -57,8 +53,6 @@ invariant_of-taker c =
           ∙ (λ i. replicate ((ap length was.out ∙ length-replicate {A = List (ℕ × ℕ)} (length v.start.network.table.ends) []) i) [])
           ∙ ap (λ (s : Start). replicate (length s.network.table.ends) []) (sym (left.start ∙ came.start));
       quota = omega (arith, was.quota, came.quota, left.quota);
-      taken = omega (arith, was.taken, many);
-      few = omega (arith, was.few, c.if-taker-count.false);
     }
 
 pub returns-clause-ok : goal.returns-clause-ok

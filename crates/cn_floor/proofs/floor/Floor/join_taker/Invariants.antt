@@ -1,4 +1,0 @@
-use Rattle.cn_floor.proofs.floor.Floor.join_taker.Given as goal
-
-abbrev pub ghosts-look : goal.ghosts-look
-ghosts-look a = record { start = a.self.now.start }
