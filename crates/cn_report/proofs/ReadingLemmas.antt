@@ -1,10 +1,6 @@
 -- Lemmas on what is read.
 pub mod Ahead
 pub mod BatchRecords
-pub mod ClippedAnswers
-pub mod ClippedPieces
-pub mod Clipping
-pub mod Commas
 pub mod Digits
 pub mod FirstFaults
 pub mod GatheredEpochs

@@ -3,7 +3,6 @@ pub mod Arrival
 pub mod Heading
 pub mod Batch
 pub mod Bounds
-pub mod Clipped
 pub mod Command
 pub mod Faults
 pub mod Gathered

@@ -3,13 +3,13 @@
 mod batch;
 mod batch_fault;
 mod bounds;
-pub(crate) mod clipped;
 mod command;
 pub(crate) mod number;
 pub(crate) mod records;
 pub(crate) mod scatter;
 mod schedule;
 mod schedule_fault;
+pub(crate) mod telling;
 
 pub use batch::{Batch, BatchEpoch, read_batch, read_batch_within};
 pub use batch_fault::{BatchCause, BatchFault};

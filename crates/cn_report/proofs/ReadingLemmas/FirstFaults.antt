@@ -78,24 +78,6 @@ module _ {C : Type 0} (header : Record → Option C) (later : List Record → Re
       each (inl w) = t.clean at (omega (arith, w.1))
       each (inr w) = cause-past records at t.some (omega (arith, w.1))
 
-  -- records that begin with no header have a cause, and the same first fault
-  pub no-clean : (records : List Record) (first : C) → header (get_or records 0 []) ≡ Some first
-      → ¬ (IsClean (cause_by header later) records)
-  unfolding cause_by
-  no-clean records first is clean = cc (sym is ∙ clean 0)
-
-  pub fault-moves : (IsOther : C → Type 0) (a b : List Record) (first : C) → header (get_or a 0 []) ≡ Some first
-      → header (get_or b 0 []) ≡ Some first → (at : ℕ) (why : C)
-      → IsFirstFault (cause_by header later) IsOther a at why → IsFirstFault (cause_by header later) IsOther b at why
-  unfolding cause_by
-  fault-moves IsOther a b first is_a is_b zero why fault =
-      record {
-        within = omega arith;
-        clean = λ at h. absurd (omega arith);
-        reported = elim fault.reported [ inl e ↦ inl (is_b ∙ sym is_a ∙ e) | inr other ↦ inr other ];
-      }
-  fault-moves IsOther a b first is_a is_b (suc at) why fault = cc (sym is_a ∙ fault.clean 0 (omega arith))
-
   module _ (IsOther : C → Type 0) where
     -- there is no record
     pub nothing : (records : List Record) (why : C) → header [] ≡ Some why → records ≡ []

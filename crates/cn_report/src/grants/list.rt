@@ -12,8 +12,8 @@ ghost use Rattle.cn_report.specs.Reading.Records.{HasRead, IsPlain, IsTold, Reco
 use crate::grants::epochs::{Granting, NamedEpoch};
 use crate::grants::record::{Flaw, GrantCause, Granted, flaw_at, granted_of};
 use crate::reading::Bounds;
-use crate::reading::clipped::{Clipped, ReadTelling};
 use crate::reading::records::{is_header, next_record, open_records};
+use crate::reading::telling::{ReadTelling, Telling};
 use csv::{ByteRecord, Reader};
 use std::alloc::Global;
 use std::io::Read;
@@ -142,7 +142,7 @@ pub fn named_grants_within<R: Read + Drop>(
     ensures exact { IfSome (R.remaining reader) (λ text.
         IfErr result (λ flaw. IsTightList (bounds_of large 0).records (records_of text) → IsOutside flaw)) }
 {
-    let mut records = open_records(alloc, Clipped::new(reader))?;
+    let mut records = open_records(alloc, Telling::new(reader))?;
     let mut fields = ByteRecord::new(alloc);
     let bounds = Bounds::of(large, 0);
     take_grants(alloc, &mut records, &mut fields, bounds.records)

@@ -17,7 +17,7 @@ use crate::reading::batch::arrivals::ArrivalReader;
 use crate::reading::batch::gathering::Gathering;
 use crate::reading::batch_fault::{BatchCause, BatchFault};
 use crate::reading::bounds::Bounds;
-use crate::reading::clipped::{Clipped, ReadTelling};
+use crate::reading::telling::{ReadTelling, Telling};
 use cn_ledger::Client;
 use std::alloc::Global;
 use std::hash::RandomState;
@@ -141,5 +141,5 @@ pub fn read_batch_within<R: Read + Drop>(
     ensures fits { IfOk result (λ batch. AreServable bounds batch.epochs.items) }
     ensures few { IfOk result (λ batch. clients_of_epochs batch.epochs.items ≤ bounds.records) }
 {
-    read_text(alloc, Clipped::new(reader), bounds, state)
+    read_text(alloc, Telling::new(reader), bounds, state)
 }

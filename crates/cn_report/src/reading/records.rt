@@ -7,7 +7,7 @@ ghost use Rattle.std.specs.Str.{bytes_eq};
 ghost use Rattle.csv.specs.Records.{fields_of};
 ghost use Rattle.cn_report.specs.Reading.Records.{HasRead, HasStopped, IsPlain, Record, records_of};
 
-use crate::reading::clipped::ReadTelling;
+use crate::reading::telling::ReadTelling;
 use csv::{ByteRecord, Reader, ReaderBuilder};
 use std::alloc::{AllocError, Global};
 use std::io::Read;

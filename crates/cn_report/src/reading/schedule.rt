@@ -6,10 +6,10 @@ ghost use Rattle.cn_report.specs.Reading.Command.{command_in};
 ghost use Rattle.cn_report.specs.Reading.Records.{HasRead, IsPlain, IsTold, Record, records_of};
 ghost use Rattle.cn_report.specs.Reading.Schedule.{IsSchedule, IsScheduleFault, cause_of_fault, command_cause, header_cause};
 
-use crate::reading::clipped::{Clipped, ReadTelling};
 use crate::reading::command::command_of;
 use crate::reading::records::{is_header, next_record, open_records};
 use crate::reading::schedule_fault::{ScheduleCause, ScheduleFault};
+use crate::reading::telling::{ReadTelling, Telling};
 use cn_ledger::Command;
 use cn_spec::limits::MOST_RECORDS;
 use csv::{ByteRecord, Reader};
@@ -116,7 +116,7 @@ pub fn read_schedule<R: Read + Drop>(
         MatchResult result (λ commands.
         IsSchedule (records_of text) commands.items) (IsScheduleFault (records_of text))) }
 {
-    let mut records = open_records(alloc, Clipped::new(reader))?;
+    let mut records = open_records(alloc, Telling::new(reader))?;
     let mut fields = ByteRecord::new(alloc);
     take_commands(alloc, &mut records, &mut fields)
 }

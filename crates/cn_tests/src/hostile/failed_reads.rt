@@ -1,5 +1,4 @@
-//! Readers that fail after many records: the fault is that of the record which was being read. A header with a field
-//! too many is refused before more is read.
+//! Readers that fail after many records, or within the header: the fault is that of the record which was being read.
 
 use super::limits::{ONE_WORKER, TWO_WORKERS, full_epochs};
 use super::runs::{Answer, is_answered};
@@ -44,23 +43,23 @@ fn reads_that_fail_after_many_records(rt: HostRuntime) -> Result<(), Fail> {
     Ok(())
 }
 
-/// Whether a header is refused at its fourth field, though a read behind that would fail.
-fn refuses_a_long_header<R: Threads + Wait + Sync>(
+/// Whether a read that fails within the header is reported there, though the header has a field too many by then.
+fn is_read_at_the_header<R: Threads + Wait + Sync>(
     rt: &R,
     alloc: Global,
     state: RandomState,
     asked: Asked,
 ) -> bool {
     let left: &[u8] = b"epoch,client,entry,";
-    let wanted = Answer::Refused(0, BatchCause::Header);
+    let wanted = Answer::Refused(0, BatchCause::Read);
     is_answered(rt, alloc, state, asked, Broken { left }, &OpenGate, wanted)
 }
 
 #[test]
-fn a_header_is_refused_at_its_fourth_field(rt: HostRuntime) -> Result<(), Fail> {
+fn a_read_that_fails_within_the_header(rt: HostRuntime) -> Result<(), Fail> {
     let (alloc, state) = (rt.alloc(), RandomState::new(&rt)?);
-    let by_one = refuses_a_long_header(&rt, alloc, state, ONE_WORKER);
-    let by_two = refuses_a_long_header(&rt, alloc, state, TWO_WORKERS);
+    let by_one = is_read_at_the_header(&rt, alloc, state, ONE_WORKER);
+    let by_two = is_read_at_the_header(&rt, alloc, state, TWO_WORKERS);
     assert_eq!(rt; (by_one, by_two), (true, true));
     Ok(())
 }

@@ -12,8 +12,8 @@ ghost use Rattle.cn_report.specs.Reading.Stretch.{HasHeader, HasSameHeader, IsOp
 use crate::reading::batch::arrival::{Arrival, Heading, arrival_of, heading_of};
 use crate::reading::batch_fault::{BatchCause, BatchFault};
 use crate::reading::bounds::Bounds;
-use crate::reading::clipped::ReadTelling;
 use crate::reading::records::{next_record, open_records};
+use crate::reading::telling::ReadTelling;
 use csv::{ByteRecord, Reader};
 use std::alloc::Global;
 
