@@ -336,8 +336,9 @@ RENAMER_CALL uint32_t renamer_take_back(const renamer_lane *of, renamer_lane *ba
 
 /* Takes in, one after another, all lanes of the same floor that were back when it was called, but for those that other
    joins take. Of lanes that are handed back meanwhile it may take some: it goes once through the places for lanes, and
-   returns, whatever other threads do. If it returns another status, some lanes may have been taken in, and the call may
-   be made again.
+   returns, whatever other threads do. The places stay as long as the floor, 16 or more: up to about twice as many as
+   lanes were ever alive at once. So after millions of lanes a call may take long. If it returns another status, some
+   lanes may have been taken in, and the call may be made again.
    RENAMER_NONE, _MEMORY. One thread at a time. */
 RENAMER_CALL uint32_t renamer_join_all(renamer_lane *lane);
 
@@ -378,10 +379,13 @@ RENAMER_CALL uint32_t renamer_open_after(renamer_lane *lane, const renamer_quiet
    RENAMER_KIND, _WIDTH, _MEMORY. One thread at a time. */
 RENAMER_CALL uint32_t renamer_open_takes(renamer_taker *taker, uint32_t kind, uint32_t width, uint32_t apart);
 
-/* Splits off another taker of the same floor, as for another thread. It gets 1,099,511,627,776 (2^40) names, or half of
-   those that are left to the first, if these are fewer: so the first taker of a floor can be split 4,194,303 times, and
-   each of the others gets that many names. They do not come back when a taker is freed. So keep it, and let another
-   thread go on with it; and if it ever has spent its names, put a new one into its place by this call.
+/* Splits off another taker of the same floor, as for another thread. As long as more than three quarters of the floor's
+   2^62 names are left to the first, the other gets 1,099,511,627,776 (2^40) of them, and else 1,048,576 (2^20), or half
+   of what is left if that is less. So the first taker of a floor can be split a million times with 2^40 names each, and
+   then a thousand times a second for a hundred years. A taker that was split off itself gives 2^20 names.
+
+   Names do not come back when a taker is freed, so a taker that is kept for the next thread is the cheapest. One that
+   has spent its names is refused with RENAMER_QUOTA_SPENT; put a new one into its place by this call.
    RENAMER_NONE, _QUOTA_TOO_SMALL (no two names are left to the first), _MEMORY. One thread at a time. */
 RENAMER_CALL uint32_t renamer_split_taker(renamer_taker *taker, renamer_taker *other);
 

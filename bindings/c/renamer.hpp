@@ -14,7 +14,7 @@
  *
  * A call that writes a list takes a pointer and a count, and writes into the array that is there; the pointer may be
  * null if the count is 0. Or it takes a std::vector, of which it makes a new one at each call. Only such calls throw, if
- * a vector gets no memory, and slot_pool::open, which has one of its own.
+ * a vector gets no memory.
  */
 #ifndef RENAMER_HPP
 #define RENAMER_HPP
@@ -207,6 +207,19 @@ class lane : public owner<renamer_lane, renamer_free> {
     /* Takes a lane that was handed back to this one's floor, whole. Threads may share this one, which is only asked. */
     status take_back(lane &back) const noexcept { return status(renamer_take_back(&handle, &back.handle)); }
 
+    /* Gives `own` a lane of this floor with quota left, without a lock: the one that it has, or else one that was
+       handed back; it takes in others as long as its quota is spent. If none with quota is back: status::nothing_back.
+       So split off as many lanes as threads may run at once, and hand them back before the threads begin. Let `own` be
+       thread_local, and its lane is handed back as its thread ends. */
+    status for_this_thread(lane &own) const noexcept {
+        std::uint64_t left = 0;
+        status last = own.quota(left);
+        if (last == status::none && (last = take_back(own)) == status::done) last = own.quota(left);
+        while (last == status::done && left == 0)
+            if ((last = own.join()) == status::done) last = own.quota(left);
+        return last;
+    }
+
     status join_all() noexcept { return status(renamer_join_all(&handle)); }
 
     status close(quiet &closed) noexcept { return status(renamer_close(&handle, &closed.handle)); }
@@ -233,14 +246,14 @@ class slot {
 class slot_pool {
   public:
     /* Makes so many slots, at most RENAMER_MOST_CLIENTS, which are free. */
-    status open(std::uint64_t count) {
+    status open(std::uint64_t count) noexcept {
         lane all;
-        std::vector<lane> made;
         std::uint64_t name = 0;
         status last = all.open(kind::tree, 2, count);
-        if (last == status::done) made.resize(static_cast<std::size_t>(count));
-        for (lane &each : made)
-            if (last == status::done && (last = all.split(1, each)) == status::done) last = each.name(0, 0, name);
+        for (std::uint64_t at = 0; last == status::done && at < count; at++) {
+            lane each;
+            if ((last = all.split(1, each)) == status::done) last = each.name(at, 0, name);
+        }
         if (last == status::done) first = std::move(all);
         return last;
     }

@@ -3,29 +3,39 @@ package renamer
 // #include <renamer.h>
 import "C"
 
-import "unsafe"
+import (
+	"runtime"
+	"unsafe"
+)
 
 // Lane is a part of a floor, by which one goroutine at a time names clients. It is made by Open, OpenApart, Split or
 // OpenAfter.
 type Lane struct{ handle C.renamer_lane }
 
+// newLane makes a lane that has nothing yet. What it gets is freed by Free, or at some collection once it is dropped.
+func newLane() *Lane {
+	lane := new(Lane)
+	runtime.SetFinalizer(lane, (*Lane).Free)
+	return lane
+}
+
 // Open opens a floor over a network of this width, for so many clients, and returns its first lane.
 func Open(kind Kind, width uint32, quota uint64) (*Lane, error) {
-	lane := new(Lane)
+	lane := newLane()
 	err := done(C.renamer_open(&lane.handle, C.uint32_t(kind), C.uint32_t(width), C.uint64_t(quota)))
 	return lane, err
 }
 
 // OpenApart opens a floor whose words lie apart, for machines of many processors.
 func OpenApart(kind Kind, width uint32, quota uint64) (*Lane, error) {
-	lane := new(Lane)
+	lane := newLane()
 	err := done(C.renamer_open_apart(&lane.handle, C.uint32_t(kind), C.uint32_t(width), C.uint64_t(quota)))
 	return lane, err
 }
 
 // Split splits off another lane, with so much of the quota.
 func (lane *Lane) Split(quota uint64) (*Lane, error) {
-	other := new(Lane)
+	other := newLane()
 	err := done(C.renamer_split(&lane.handle, C.uint64_t(quota), &other.handle))
 	return other, err
 }
@@ -135,7 +145,7 @@ func (lane *Lane) Join() error { return done(C.renamer_join(&lane.handle)) }
 
 // TakeBack takes a lane of the floor that was handed back, whole. Its own lane is only asked, so goroutines may share it.
 func (lane *Lane) TakeBack() (*Lane, error) {
-	back := new(Lane)
+	back := newLane()
 	err := done(C.renamer_take_back(&lane.handle, &back.handle))
 	return back, err
 }
@@ -145,7 +155,7 @@ func (lane *Lane) JoinAll() error { return done(C.renamer_join_all(&lane.handle)
 
 // Close closes the floor, which frees the lane.
 func (lane *Lane) Close() (*Quiet, error) {
-	quiet := new(Quiet)
+	quiet := newQuiet()
 	err := done(C.renamer_close(&lane.handle, &quiet.handle))
 	return quiet, err
 }

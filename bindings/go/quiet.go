@@ -3,8 +3,17 @@ package renamer
 // #include <renamer.h>
 import "C"
 
+import "runtime"
+
 // Quiet is a floor that is closed: how many left by each exit, and who has which name.
 type Quiet struct{ handle C.renamer_quiet }
+
+// newQuiet makes one that has nothing yet. What it gets is freed by Free, or at some collection once it is dropped.
+func newQuiet() *Quiet {
+	quiet := new(Quiet)
+	runtime.SetFinalizer(quiet, (*Quiet).Free)
+	return quiet
+}
 
 // list copies a list of the closed floor.
 func (quiet *Quiet) list(size func(*C.uint64_t) C.uint32_t, copied func(*C.uint64_t, C.size_t) C.uint32_t) ([]uint64, error) {
@@ -32,7 +41,7 @@ func (quiet *Quiet) Holders() ([]uint64, error) {
 
 // OpenAfter opens the next floor over the same network, which goes on with its counts.
 func (quiet *Quiet) OpenAfter(quota uint64) (*Lane, error) {
-	lane := new(Lane)
+	lane := newLane()
 	err := done(C.renamer_open_after(&lane.handle, &quiet.handle, C.uint64_t(quota)))
 	return lane, err
 }

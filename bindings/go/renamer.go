@@ -2,8 +2,9 @@
 //
 // It calls the proved library librenamer.so.1 by cgo. A Lane is a goroutine's own part of a floor, by which it names
 // clients; renamer.h says what each call does. Calls on different lanes may run at once, and calls on one lane may not
-// overlap, but for those that only ask: Lowest, Entered, Quota, Inside, Entries, Exits, Grants and TakeBack. A lane or a
-// closed floor that is not used any more is to be freed: by Free, or by a call that says so.
+// overlap, but for those that only ask: Lowest, Entered, Quota, Inside, Entries, Exits, Grants and TakeBack. A lane, a
+// taker or a closed floor that is not used any more is freed by Free, or by a call that says so. One that is dropped is
+// freed at some collection, until when a lane keeps its quota. Numbers that come back are Slots.
 package renamer
 
 // #cgo LDFLAGS: -lrenamer

@@ -3,12 +3,21 @@ package renamer
 // #include <renamer.h>
 import "C"
 
+import "runtime"
+
 // Taker is a goroutine's own part of a floor whose names are only taken. Such a floor knows no clients and keeps no list,
 // and it has 2^62 names. What a taker that is freed has not taken is nobody's then, so keep it for the next goroutine.
 type Taker struct{ handle C.renamer_taker }
 
-func openTakes(kind Kind, width uint32, apart C.uint32_t) (*Taker, error) {
+// newTaker makes one that has nothing yet. What it gets is freed by Free, or at some collection once it is dropped.
+func newTaker() *Taker {
 	taker := new(Taker)
+	runtime.SetFinalizer(taker, (*Taker).Free)
+	return taker
+}
+
+func openTakes(kind Kind, width uint32, apart C.uint32_t) (*Taker, error) {
+	taker := newTaker()
 	err := done(C.renamer_open_takes(&taker.handle, C.uint32_t(kind), C.uint32_t(width), apart))
 	return taker, err
 }
@@ -19,9 +28,10 @@ func OpenTakes(kind Kind, width uint32) (*Taker, error) { return openTakes(kind,
 // OpenTakesApart opens one whose words lie apart, for machines of many processors.
 func OpenTakesApart(kind Kind, width uint32) (*Taker, error) { return openTakes(kind, width, 1) }
 
-// Split splits off another taker, with 2^40 names, or half of those that are left if these are fewer.
+// Split splits off another taker: with 2^40 names if more than three quarters of the floor's 2^62 are left to this one,
+// as to a first taker at its first million splits, and else with 2^20, or half of what is left.
 func (taker *Taker) Split() (*Taker, error) {
-	other := new(Taker)
+	other := newTaker()
 	err := done(C.renamer_split_taker(&taker.handle, &other.handle))
 	return other, err
 }

@@ -3,6 +3,7 @@ sanitizers."""
 import dataclasses
 import os
 import pathlib
+import re
 import shutil
 import subprocess
 
@@ -79,10 +80,12 @@ class Program:
 GROWTHS = (C / "tests" / "growths.c", WRAPPED)
 FUZZ = Program(C / "tests" / "fuzz.c", (C / "tests" / "model.c", *sorted((C / "tests").glob("calls_*.c")), *GROWTHS))
 EPOCHS = "".join(f"epoch {epoch}: {2 * epoch + 2} clients in the first rows\n" for epoch in (1, 2, 3))
+UNSEEN = Program(C / "tests" / "unseen.c", is_order_unseen=True)
 TABLE = Program(C / "examples" / "table.c", prints=EPOCHS)
 # What the examples print by which workers take names, in each language.
 WORKERS = "64 workers filled the rows 0 to 6399, each once\n"
-SLOTS = "4 threads counted to 4000 in the rows of 8 slots\n"
+STATS, CONNECTIONS = "64 threads counted to 64000 in 4 rows\n", "4000 connections had one of 16 rows each\n"
+COMPACT = "14286 of 100000 numbers are kept, without gaps\n"
 PROGRAMS = (
     Program(C / "tests" / "carried.c", is_long=True),
     Program(C / "tests" / "frozen.c", is_long=True),
@@ -91,8 +94,9 @@ PROGRAMS = (
     TABLE,
     Program(C / "examples" / "lanes.cpp", prints="3000 clients have the names 0 to 2999\n"),
     Program(C / "examples" / "workers.c", prints=WORKERS),
-    Program(C / "examples" / "workers.cpp", prints=WORKERS),
-    Program(C / "examples" / "slots.c", prints=SLOTS, is_order_unseen=True),
+    Program(C / "examples" / "stats.c", prints=STATS, is_order_unseen=True),
+    Program(C / "examples" / "connections.c", prints=CONNECTIONS, is_order_unseen=True),
+    Program(C / "examples" / "compact.cpp", prints=COMPACT, is_order_unseen=True),
     Program(C / "tests" / "names.c"),
     Program(C / "tests" / "statuses.c"),
     Program(C / "tests" / "listed.c"),
@@ -111,6 +115,7 @@ PROGRAMS = (
     Program(C / "tests" / "next_floor.c"),
     Program(C / "tests" / "join_all_ends.c"),
     Program(C / "tests" / "slots_back.c"),
+    UNSEEN,
     Program(C / "tests" / "objects.cpp"),
     FUZZ,
 )
@@ -196,6 +201,16 @@ def has_sanitizer(compiler, sanitizer, folder):
     return True
 
 
+def page_silences(folder):
+    """The sanitizer for threads reports lanes that go from thread to thread, but not with the lines of the page."""
+    if not has_sanitizer("cc", "thread", folder):
+        raise NotTried("the sanitizer for threads is not here, so it was not silenced")
+    made, lines = compiled(UNSEEN, folder, "silenced", SANITIZERS["thread"][0]), folder / "silenced"
+    refuses([made], "data race")
+    lines.write_text("\n".join(re.findall(r"`(race:[^`]+)`", (C / "README.md").read_text())))
+    run([made], TSAN_OPTIONS=f"halt_on_error=1 suppressions={lines}")
+
+
 def sanitized(compiler, folder):
     """A case for each program of a compiler under each sanitizer; says of each whether it is there."""
     programs = [program for program in PROGRAMS if program.compiler() == compiler and not program.is_long]
@@ -222,6 +237,7 @@ def cases(compiler, folder):
     yield from sanitized(compiler, folder)
     if compiler == "cc":
         yield "bindings/c/tests/fuzz.c, valgrind", lambda: fuzz_by_valgrind(folder)
+        yield "bindings/c, sanitizer thread silenced", lambda: page_silences(folder)
         yield "the archive, least processor", lambda: run_by_least([compiled(TABLE, folder, "least", [])])
 
 
@@ -253,11 +269,11 @@ int main(void) {{
 
 
 def refuses(words, warning):
-    """A compiler refuses a program for a warning."""
+    """A command fails, and says this."""
     try:
         run(words)
     except Wrong as wrong:
         if warning in str(wrong):
             return
         raise
-    raise Wrong(f"{words[0]} does not warn of {warning}")
+    raise Wrong(f"{pathlib.Path(words[0]).name} does not say {warning!r}")

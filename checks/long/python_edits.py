@@ -31,6 +31,9 @@ EDITS = (
     (FLOOR + "numbers_out_of_range_are_refused", "_arrays.py", "        in_range(row.min())", "        pass"),
     (PAGES + "public_names_are_shown_as_users_call_them", "__init__.py", "_public.__module__ = __name__", "pass"),
     (FLOOR + "a_lane_with_nothing_is_there_still", "_library.py", "15: LanesThere", "15: LanesMissing"),
+    # Slots.
+    (BACK + "a_slot_has_one_owner_and_comes_back", "_slots.py", "return grant[3]", "return grant[2]"),
+    (BACK + "a_slot_has_one_owner_and_comes_back", "_library.py", "12: NothingBack", "12: QuotaSpent"),
     # Takers.
     (TAKER + "threads_take_each_name_once", "_taker.py",
      "lib.take_many(self._handle, lib.in_range(entry), names.ctypes.data, len(names))", "names[:] = 0"),

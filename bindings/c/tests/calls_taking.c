@@ -64,7 +64,8 @@ void call_open_takes(void) {
 
 static uint32_t split(struct taker *taker, struct taker *other) {
     const void *at = other->handle.at;
-    uint64_t share = taker->quota / 2 < UINT64_C(1) << 40 ? taker->quota / 2 : UINT64_C(1) << 40;
+    uint64_t most = UINT64_C(1) << (taker->quota > UINT64_C(3) << 60 ? 40 : 20);
+    uint64_t share = taker->quota / 2 < most ? taker->quota / 2 : most;
     uint32_t status, wanted = RENAMER_NONE;
     if (taker->floor)
         wanted = share ? RENAMER_DONE : RENAMER_QUOTA_TOO_SMALL;

@@ -5,6 +5,7 @@
 #include <cstdio>
 #include <cstdlib>
 #include <cstring>
+#include <thread>
 #include <type_traits>
 #include <utility>
 #include <vector>
@@ -164,9 +165,35 @@ static void take_slots() {
     CHECK(third.number(number) == status::done && number == 0 && first.number(number) == status::done);
 }
 
+// Threads that come and go get lanes by one that they share, and name clients as long as a lane has quota.
+static void share() {
+    renamer::lane first, own;
+    renamer::quiet quiet;
+    std::uint64_t number = 99;
+    CHECK(first.for_this_thread(own) == status::none && first.open(kind::tree, 4, 10) == status::done);
+    CHECK(first.for_this_thread(own) == status::nothing_back);
+    for (int made = 0; made < 2; made++) {
+        renamer::lane lane;
+        CHECK(first.split(5, lane) == status::done);
+    }
+    const renamer::lane &asked = first;
+    for (std::uint64_t thread = 0; thread < 3; thread++)
+        std::thread([&asked, thread] {
+            static thread_local renamer::lane lane;
+            std::uint64_t name = 99;
+            for (std::uint64_t turn = 0; turn < 3; turn++)
+                CHECK(asked.for_this_thread(lane) == status::done && lane.name(thread, 0, name) == status::done
+                      && name == 3 * thread + turn);
+        }).join();
+    CHECK(asked.for_this_thread(own) == status::done && own.name(3, 0, number) == status::done && number == 9);
+    CHECK(asked.for_this_thread(own) == status::nothing_back && own.hand_back() == status::done);
+    CHECK(first.join_all() == status::done && first.close(quiet) == status::done);
+}
+
 int main() {
     refused();
     close_and_go_on();
+    share();
     take_slots();
     take();
 }

@@ -88,9 +88,9 @@ static void refused(void) {
     none(&taker);
 }
 
-/* Each taker gets half of what the one before had left, until one has a single name. */
+/* A first taker gives 2^40 names, that one 2^20, and each other half of what it has, until one has a single name. */
 static void quota_ends(void) {
-    enum { LINKS = 41 };
+    enum { LINKS = 22 };
     renamer_taker chain[LINKS + 2] = {RENAMER_NO_TAKER_YET};
     uint64_t names[2] = {77, 78};
     CHECK(renamer_open_takes(&chain[0], RENAMER_TREE, 2, 0) == RENAMER_DONE);

@@ -1,4 +1,4 @@
-"""Lanes that come back: those that are dropped or interrupted, and small ones that threads take anew."""
+"""Lanes that come back: those that are dropped or interrupted, small ones that threads take anew, and slots."""
 
 import concurrent.futures
 import dis
@@ -7,6 +7,7 @@ import itertools
 import pathlib
 import re
 import sys
+import threading
 
 import pytest
 
@@ -36,6 +37,9 @@ def test_no_step_at_which_ctrl_c_loses_a_lane():
     first = renamer.Taker()
     steps = [interrupted(first.split, at) for at in range(50)]
     assert max(steps) > 10 and first.take() == 0
+    slots = renamer.Slots(1)
+    steps = [interrupted(slots.take, at) for at in range(50)]
+    assert max(steps) > 10 and slots.take().number == 0
 
 
 def interrupted(call, at):
@@ -76,3 +80,37 @@ def test_small_lanes_of_the_page_serve_all_clients():
     assert sorted(names) == list(range(20_000))
     holders = made["floor"].close().holders
     assert holders[names].tolist() == list(range(20_000))
+
+
+def test_a_slot_has_one_owner_and_comes_back():
+    slots, owners = renamer.Slots(4), [threading.Lock() for _ in range(4)]
+
+    def own(_):
+        with slots.take() as slot:
+            assert owners[slot.number].acquire(blocking=False)
+            owners[slot.number].release()
+
+    with concurrent.futures.ThreadPoolExecutor(4) as pool:
+        assert len(list(pool.map(own, range(2000)))) == 2000
+    taken = [slots.take() for _ in range(4)]
+    assert sorted(slot.number for slot in taken) == [0, 1, 2, 3]
+    with pytest.raises(renamer.NothingBack, match="all slots are taken"):
+        slots.take()
+    number = taken[2].number
+    taken[2].free()
+    taken[2].free()
+    with pytest.raises(renamer.WasFreed):
+        taken[2].number
+    last = slots.take()
+    assert repr(last) == f"<renamer.Slot tree 2, number {number}>" and repr(slots) == "<renamer.Slots 4>"
+    del slots
+    assert last.number == number
+
+
+def test_pools_that_there_are_not():
+    with pytest.raises(renamer.NoSuchQuota):
+        renamer.Slots(262_145)
+    with pytest.raises(OverflowError):
+        renamer.Slots(-1)
+    with pytest.raises(renamer.NothingBack):
+        renamer.Slots(0).take()

@@ -252,6 +252,39 @@ impl Lane {
         Ok(Lane { raw: self.raw.take_back()?, count: Arc::clone(&self.count) })
     }
 
+    /// Gives `own` a lane of this floor with quota left, and returns it: the one that `own` has, or else one that was
+    /// handed back. It takes in others as long as its quota is spent. There is no lock, since this lane is only asked.
+    ///
+    /// So split off as many lanes as threads may run at once, and drop them before the threads begin. Keep `own` in a
+    /// `thread_local!`, and the lane is handed back as its thread ends.
+    ///
+    /// ```
+    /// use renamer::{Error, Floor, Kind, Lane};
+    /// use std::cell::RefCell;
+    ///
+    /// thread_local!(static OWN: RefCell<Option<Lane>> = const { RefCell::new(None) });
+    ///
+    /// let mut first = Floor::open(Kind::Tree, 2, 100)?.into_lane();
+    /// (0..4).try_for_each(|_| first.split(25).map(drop))?;
+    /// let name = |client| OWN.with_borrow_mut(|own| first.for_this_thread(own)?.name(client, 0));
+    /// std::thread::scope(|scope| scope.spawn(|| (0..30).try_for_each(|client| name(client).map(drop))).join().unwrap())?;
+    /// assert_eq!(name(30), Ok(30));
+    /// # Ok::<(), Error>(())
+    /// ```
+    ///
+    /// # Errors
+    /// [`Error::NothingBack`] if no lane with quota was back, [`Error::Memory`] if there is none for the grants of one.
+    pub fn for_this_thread<'own>(&self, own: &'own mut Option<Lane>) -> Result<&'own mut Lane, Error> {
+        let lane = match own {
+            Some(lane) => lane,
+            None => own.insert(self.take_back()?),
+        };
+        while lane.quota() == 0 {
+            lane.join()?;
+        }
+        Ok(lane)
+    }
+
     /// Takes in, one after another, all lanes of the floor that were back when it was called, and of those that come
     /// back meanwhile some. It returns whatever other threads do.
     ///

@@ -27,7 +27,7 @@
 //!
 //! Names are given once: a floor lets in at most [`MOST_CLIENTS`] clients, and a name comes back only with the next
 //! floor. Threads that need names only, and need not know who has which, take them by a [`Taker`] each: these names do
-//! not end.
+//! not end. Numbers that come back one by one are [`Slots`].
 //!
 //! The calls are those of a library in which each function is proved to meet its contract. What this crate adds is not
 //! proved: that the library's conditions on its callers hold. All that is unsafe stands in one file, `src/raw.rs`.
@@ -41,6 +41,7 @@ mod kind;
 mod lane;
 mod quiet;
 mod raw;
+mod slots;
 mod steps;
 mod taker;
 
@@ -49,6 +50,7 @@ pub use floor::Floor;
 pub use kind::Kind;
 pub use lane::{Client, Grant, Lane};
 pub use quiet::Quiet;
+pub use slots::{Slot, Slots};
 pub use steps::{Moved, Place, Swept};
 pub use taker::Taker;
 

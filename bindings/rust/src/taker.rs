@@ -52,8 +52,10 @@ impl Taker {
         RawTaker::open(kind as u32, width, true).map(|raw| Taker { raw })
     }
 
-    /// Splits off another taker of the same floor. It gets 1,099,511,627,776 names, or half of those that are left to
-    /// this one, if these are fewer. So the first taker of a floor can give that many to 4,194,303 others.
+    /// Splits off another taker of the same floor. As long as more than three quarters of the floor's names are left to
+    /// this one, the other gets 2^40 (1,099,511,627,776), and else 2^20 (1,048,576), or half of what is left if that is
+    /// less. So the first taker of a floor can be split a million times with 2^40 names each, and then a thousand times
+    /// a second for a hundred years. A taker that was split off itself gives 2^20.
     ///
     /// # Errors
     /// [`Error::QuotaTooSmall`] if no two names are left, [`Error::Memory`]: the first that stands.

@@ -1,5 +1,6 @@
 //! Lanes that come and go, as those of a thread pool: any number of them, alive at once or one after another.
-use renamer::{Error, Floor, Kind};
+use renamer::{Error, Floor, Kind, Lane, Slot, Slots, MOST_CLIENTS};
+use std::cell::RefCell;
 use std::sync::{Barrier, Mutex};
 use std::thread;
 
@@ -84,27 +85,52 @@ fn a_lane_says_what_it_has() {
 
 #[test]
 fn a_slot_has_one_owner_and_comes_back() {
-    const SLOTS: u64 = 4;
-    let mut shared = Floor::open(Kind::Tree, 2, SLOTS).unwrap().into_lane();
-    let made: Vec<_> = (0..SLOTS).map(|_| shared.split(1).unwrap()).collect();
-    for mut lane in made {
-        lane.name(0, 0).unwrap();
-    }
+    const SLOTS: usize = 4;
+    let slots = Slots::open(SLOTS as u64).unwrap();
     let owners: Vec<_> = (0..SLOTS).map(|_| Mutex::new(())).collect();
     thread::scope(|scope| {
         for _ in 0..SLOTS {
             scope.spawn(|| {
                 for _ in 0..1_000 {
-                    let slot = shared.take_back().unwrap();
-                    assert_eq!((slot.grant_count(), slot.quota()), (1, 0));
-                    drop(owners[slot.grants()[0].index()].try_lock().unwrap());
+                    let slot = slots.take().unwrap();
+                    drop(owners[slot.number()].try_lock().unwrap());
                 }
             });
         }
     });
-    let taken: Vec<_> = (0..SLOTS).map(|_| shared.take_back().unwrap()).collect();
-    assert_eq!(shared.take_back().err(), Some(Error::NothingBack));
-    assert_eq!(shared.alive(), 5);
+    let mut taken: Vec<_> = (0..SLOTS).map(|_| slots.take().unwrap()).collect();
+    assert_eq!(slots.take().err(), Some(Error::NothingBack));
+    let forgotten = taken.pop();
     drop(taken);
-    assert_eq!((shared.alive(), shared.join_all(), shared.grant_count()), (1, Ok(()), SLOTS));
+    let rest: Vec<_> = (1..SLOTS).map(|_| slots.take().unwrap()).collect();
+    assert_eq!(slots.take().err(), Some(Error::NothingBack));
+    drop(slots);
+    let mut numbers: Vec<_> = rest.iter().map(Slot::number).collect();
+    numbers.extend(forgotten.iter().map(Slot::number));
+    numbers.sort_unstable();
+    assert!(numbers.into_iter().eq(0..SLOTS));
+    assert_eq!(Slots::open(MOST_CLIENTS + 1).err(), Some(Error::Quota));
+}
+
+thread_local!(static OWN: RefCell<Option<Lane>> = const { RefCell::new(None) });
+
+#[test]
+fn threads_get_lanes_by_one_that_they_share() {
+    let mut first = Floor::open(Kind::Tree, 4, 100).unwrap().into_lane();
+    for _ in 0..4 {
+        first.split(25).unwrap();
+    }
+    let name = |client| OWN.with_borrow_mut(|own| first.for_this_thread(own)?.name(client, 0));
+    // Threads that come and go name all clients, though no lane has quota for as many as a thread names.
+    for begin in (0..100).step_by(50) {
+        thread::scope(|scope| {
+            let by_thread = move |from| (from..from + 25).map(name).collect::<Result<Vec<_>, _>>();
+            let other = scope.spawn(move || by_thread(begin + 25));
+            assert_eq!((by_thread(begin).is_ok(), other.join().unwrap().is_ok()), (true, true));
+        });
+    }
+    assert_eq!(name(100), Err(Error::NothingBack));
+    OWN.take();
+    first.join_all().unwrap();
+    assert_eq!(first.close().unwrap().len(), 100);
 }

@@ -56,11 +56,11 @@ fn refusals_change_nothing() {
     assert_eq!(taker.take(3), Ok(0));
 }
 
-/// Each taker in a chain has half of what the one before had, in the end one name.
+/// A first taker gives 2^40 names, that one 2^20, and each other half of what it has, in the end one name.
 #[test]
 fn a_chain_of_takers_ends() {
     let mut chain = vec![Taker::open(Kind::Tree, 2).unwrap()];
-    for _ in 0..41 {
+    for _ in 0..22 {
         let other = chain.last_mut().unwrap().split().unwrap();
         chain.push(other);
     }

@@ -1,5 +1,5 @@
 -- What calls make of takers, and why they are refused: each by the first cause that stands, in the order of the lines.
-use Rattle.std.specs.Prelude.{◌≡◌, ℕ, ◌*◌, ◌/◌, ◌<◌, ◌≤◌, min, List, Option, None, Some}
+use Rattle.std.specs.Prelude.{◌≡◌, ℕ, ◌*◌, ◌/◌, ◌<◌, ◌≤◌, min, nat_le, if◌then◌else◌, List, Option, None, Some}
 use Rattle.cn_wiring.specs.declared.kind.Kind.{Kind}
 use Rattle.cn_nets.specs.Net.{IsNetworkOf}
 use Rattle.cn_floor.specs.Steps.{IsAnswer, StoodInState}
@@ -8,7 +8,7 @@ use Rattle.cn_floor.specs.Views.{after_entered, after_look, after_split, base, s
 use Rattle.cn_floor.specs.Words.{word_count}
 use Rattle.cn_spec.specs.declared.limits.TheConstants.{MOST_TAKEN}
 use Rattle.renamer_c.specs.Calls.{number_of}
-use Rattle.renamer_c.specs.declared.held_taker.TheConstants.{SHARE}
+use Rattle.renamer_c.specs.declared.held_taker.TheConstants.{KEPT, SHARE, SMALL_SHARE}
 use Rattle.renamer_c.specs.declared.refusal.Refusal.{Refusal}
 use Rattle.renamer_c.specs.declared.refusal.Refusal.TheVariants.{Nothing, Memory, NoSuchEntry, QuotaSpent, QuotaTooSmall}
 
@@ -33,9 +33,10 @@ pub record LieBy (number : ℕ) (t : TakerValue) : Type 0 where
   pub side_by_side : number ≡ 0 → t.home.table.words ≡ word_count t.home.start.network.table
   pub apart : 0 < number → t.home.table.words ≡ 16 * word_count t.home.start.network.table
 
--- how many names another taker gets of so many: half of them, up to a number
+-- how many names another taker gets of so many: half of them, up to a large share if there are more than are kept for
+-- small ones, and up to a small one else
 abbrev pub share_of : ℕ → ℕ
-share_of quota = min SHARE (quota / 2)
+share_of quota = min (if nat_le quota KEPT then SMALL_SHARE else SHARE) (quota / 2)
 
 -- so much of a taker's quota is another taker's, of the same floor
 pub record IsSplitOff (old new other : TakerValue) (quota : ℕ) : Type 0 where

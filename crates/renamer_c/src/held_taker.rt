@@ -17,8 +17,15 @@ use std::alloc::Global;
 use std::marker::Model;
 use std::sync::Arc;
 
-/// How many names a taker gets at most that is split off. A floor has 4,194,304 times as many.
+/// How many names a taker gets at most that is split off one with more than [`KEPT`]. A quarter of a floor's names goes
+/// in 1,048,576 such shares.
 pub const SHARE: u64 = 1_099_511_627_776;
+
+/// How many names a taker gets at most that is split off one with no more than [`KEPT`].
+pub const SMALL_SHARE: u64 = 1_048_576;
+
+/// How many names go in small shares: three quarters of a floor's, for a thousand splits a second in a hundred years.
+pub const KEPT: u64 = 3_458_764_513_820_540_928;
 
 /// A taker with its share of its floor, which takers own together. To contracts it is the taker.
 #[derive(Drop)]
@@ -85,11 +92,16 @@ impl HeldTaker {
         }
     }
 
-    /// How many names another taker gets that is split off: half of those that are left, up to [`SHARE`].
+    /// How many names another taker gets that is split off: half of those that are left, up to a share.
     pub(crate) fn quota_for_another(&self) -> u64
         ensures { result ≡ share_of self.now.view.quota }
     {
-        SHARE.min(self.taker.quota() / 2)
+        let quota = self.taker.quota();
+        if quota <= KEPT {
+            SMALL_SHARE.min(quota / 2)
+        } else {
+            SHARE.min(quota / 2)
+        }
     }
 
     /// Splits off a taker with so many names.

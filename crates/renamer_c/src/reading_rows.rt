@@ -122,15 +122,16 @@ pub(crate) struct Unmade {
 }
 
 impl Unmade {
-    /// Looks from the last row on.
+    /// Looks from the first row on: a row is made only if that before it was, so none is made after one that is free.
     pub(crate) fn of(floor: &FloorWithPlaces) -> Unmade
         ensures { result.from ≤ 26 }
     {
-        let mut from = ROWS;
-        while from > 0 && is_free(floor, from - 1) {
-            from -= 1;
+        for from in 0..ROWS {
+            if is_free(floor, from) {
+                return Unmade { from };
+            }
         }
-        Unmade { from }
+        Unmade { from: ROWS }
     }
 
     /// Its number.

@@ -12,8 +12,8 @@
 
 `number` names the clients of one row, of any length. A `Floor` is for threads that name clients as they come: it is one
 epoch of at most 262,144 clients, and each thread has a lane of its own. `renamer.dask` and `renamer.mpi` name the
-clients of a data set that lies on many processes. A `Taker` takes names without end, of which no list is kept. By the
-proved program `check` looks at names from anywhere, and `run` names a batch.
+clients of a data set that lies on many processes. A `Taker` takes names without end, of which no list is kept. `Slots`
+are numbers that come back. By the proved program `check` looks at names from anywhere, and `run` names a batch.
 """
 
 from ._arrays import Quiet
@@ -26,6 +26,7 @@ from ._library import (
     NoSuchEntry,
     NoSuchNetwork,
     NoSuchQuota,
+    NothingBack,
     QuotaSpent,
     Refused,
     WasFreed,
@@ -33,6 +34,7 @@ from ._library import (
 )
 from ._parts import Duplicate, Part, first_names, name_part, number
 from ._program import NotTight, Refusal, check, program, run
+from ._slots import Slot, Slots
 from ._taker import Taker
 
 __all__ = [
@@ -50,11 +52,14 @@ __all__ = [
     "NoSuchNetwork",
     "NoSuchQuota",
     "NotTight",
+    "NothingBack",
     "Part",
     "Quiet",
     "QuotaSpent",
     "Refusal",
     "Refused",
+    "Slot",
+    "Slots",
     "Taker",
     "WasFreed",
     "check",

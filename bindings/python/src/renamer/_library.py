@@ -60,6 +60,12 @@ class LanesMissing(Refused):
     _said = "other lanes of the floor have quota or names of it: hand them back before"
 
 
+class NothingBack(Refused):
+    """All slots are taken."""
+
+    _said = "all slots are taken"
+
+
 class LanesThere(Refused):
     """Other lanes of the floor are still there, though with nothing of it: hand them back before the close."""
 
@@ -75,6 +81,7 @@ _REFUSALS = {
     7: QuotaSpent,
     8: QuotaSpent,
     11: LanesMissing,
+    12: NothingBack,
     15: LanesThere,
 }
 
@@ -123,7 +130,9 @@ name_one = _call("renamer_name", _handle, Number, Number, _number)
 name_list = _call("renamer_name_list", _handle, _array, _size, Number, _array, _size)
 name_many = _call("renamer_name_many", _handle, _array, _size, _array, _size)
 quota_left = _call("renamer_quota", _handle, _number)
+list_grants = _call("renamer_grants", _handle, Number, _array, _size)
 join_all = _call("renamer_join_all", _handle)
+take_back = _call("renamer_take_back", _handle, _handle)
 close_floor = _call("renamer_close", _handle, _handle)
 quiet_exits = _call("renamer_quiet_exits", _handle, _number)
 quiet_clients = _call("renamer_quiet_clients", _handle, _number)

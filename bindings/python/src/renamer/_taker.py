@@ -25,7 +25,8 @@ class Taker(Owned):
         lib.open_takes(self._handle, *as_network(network, width), apart)
 
     def split(self) -> Taker:
-        """Another taker of the same floor, with 2^40 names, or half of what is left if that is less.
+        """Another taker of the same floor: with 2^40 names if more than three quarters of the floor's 2^62 are left to
+        this one, as to a first taker at its first million splits, and else with 2^20, or half of what is left.
 
         Raises QuotaSpent if no two names are left, and NoMemory.
         """
