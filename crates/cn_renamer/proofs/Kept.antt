@@ -1,16 +1,13 @@
 -- What a replay keeps of the answers of its commands.
 use Rattle.std.proofs.Common.{◌≡◌, ◌+◌, ◌-◌, ◌<◌, ◌≤◌, ℕ, List, [], None, false, ◌∷◌, ap, ◌∙◌, sym, subst, refl, arith, length, get_or, zero-add}
-use Rattle.std.specs.Prelude.{◌≢◌}
-use Rattle.std.specs.List.{AllByRecursion, AllZip}
+use Rattle.std.specs.List.{All, AllZip}
+use Rattle.std.proofs.lemmas.List.Elements.{AllZip-get_or, length_all_zip}
 use Rattle.std.proofs.lemmas.List.{ext_get_or}
 use Rattle.std.proofs.lemmas.List.FromFn.{get_or-map-range_with_len, length-map-range_with_len}
 use Rattle.cn_spec.specs.Step.{share, shares_after}
 use Rattle.cn_spec.specs.declared.limits.TheConstants.{MOST_CLIENTS}
-use Rattle.cn_ledger.specs.declared.reply.EnterFault.TheVariants.{Memory as EnterMemory}
-use Rattle.cn_ledger.specs.declared.reply.Reply.TheVariants.{EnterRefused}
 use Rattle.cn_ledger.specs.declared.answer.Answer.{Answer}
 use Rattle.cn_ledger.specs.declared.answer.Answer.TheVariants.{Replied, Turned, TurnRefused}
-use Rattle.cn_ledger.specs.declared.answer.TurnFault.TheVariants.{Memory}
 use Rattle.cn_ledger.specs.declared.command.Command.{Command}
 use Rattle.cn_ledger.specs.declared.command.Command.TheVariants.{Enter, Step, Turn}
 use Rattle.cn_ledger.specs.declared.record.EpochRecord.{EpochRecord}
@@ -22,8 +19,9 @@ use Rattle.cn_core.specs.State.{start}
 use Rattle.cn_epoch.specs.Calls.{TakesCommandTo}
 use Rattle.cn_epoch.specs.History.{ByEpochHistories, Epochs, EpochsAgree, history_by_commands, turns_by}
 use Rattle.cn_epoch.specs.Turns.{IsTightRecord}
-use Rattle.cn_report.specs.Writing.Replay.{AreAnswers, Fits, IsEnterReply, IsKept, IsKeptRecord, IsStepReply, IsWholeKept, IsWholeKeptRecord, counts_or_shares, kept_counts, replay_text}
-use Rattle.cn_renamer.specs.Replay.{AreAnsweredAs, IsReplayText, IsWithoutCounts}
+use Rattle.cn_report.specs.Writing.Replay.{AreAnswers, Fits, IsShowable, answer_line, counts_or_shares, replay_text}
+use Rattle.cn_report.proofs.CallerLemmas.{lines-by}
+use Rattle.cn_renamer.specs.Replay.{AreAnsweredAs, IsKept, IsReplayText, IsWithoutCounts}
 
 shares-many : (w k : ℕ) → length (shares_after 0 k w) ≡ w
 shares-many w k = length-map-range_with_len (λ i. share (0 + k) w i - share 0 w i) 0 w
@@ -46,100 +44,76 @@ tight-counts w r tight =
               (zero-add i),
         )
 
--- a record without counts has the shares for counts
-left-out : (w : ℕ) (kept : EpochRecord) → kept.counts.items ≡ [] → kept_counts w kept ≡ shares_after 0 kept.clients w
-left-out w kept none = ap (counts_or_shares w kept.clients) none
+-- so they are shown as if they were left out
+shown-shares : (w clients : ℕ) (counts : List ℕ) → counts ≡ shares_after 0 clients w
+    → counts_or_shares w clients counts ≡ shares_after 0 clients w
+shown-shares w clients [] is = refl
+shown-shares w clients (count ∷ counts) is = is
 
-record-kept : (w : ℕ) (r kept : EpochRecord) → IsTightRecord w 0 r → IsWithoutCounts (Turned r) (Turned kept) → IsKeptRecord w r kept
-record-kept w r kept tight (number, clients, none, holders) = record {
-  number = sym number;
-  clients = sym clients;
-  counts = tight-counts w r tight ∙ ap (λ k. shares_after 0 k w) (sym clients) ∙ sym (left-out w kept none);
-  holders = ap (λ h. h.items) (sym holders);
-}
+module _ (w : ℕ) (r kept : EpochRecord) (without : IsWithoutCounts (Turned r) (Turned kept)) (tight : IsTightRecord w 0 r) where
+  fits-turned : (command : Command) → Fits command (Turned r) → Fits command (Turned kept)
+  fits-turned (Enter client entry) fits = fits
+  fits-turned (Step client) fits = fits
+  fits-turned Turn fits = tt
 
-record-whole : (w : ℕ) (r kept : EpochRecord) → IsTightRecord w 0 r → r.clients ≤ MOST_CLIENTS → IsWithoutCounts (Turned r) (Turned kept)
-    → IsWholeKeptRecord w kept
-record-whole w r kept tight few (number, clients, none, holders) = record {
-  counts = ap length (left-out w kept none) ∙ shares-many w kept.clients;
-  few = λ same. omega (arith, few, clients);
-  holders = ap (λ h. length h.items) holders ∙ tight.names ∙ sym clients;
-}
+  lines-turned : (command : Command) → answer_line w command (Turned r) ≡ answer_line w command (Turned kept)
+  unfolding answer_line
+  lines-turned (Enter client entry) = refl
+  lines-turned (Step client) = refl
+  lines-turned Turn =
+      let (number, clients, none, holders) = without in
+      rw (number, clients, none, holders, shown-shares w r.clients r.counts.items (tight-counts w r tight)) refl
+
+  turned-kept : r.clients ≤ MOST_CLIENTS → IsKept w (Turned r) (Turned kept)
+  turned-kept few =
+      let (number, clients, none, holders) = without in
+      record {
+        fits = fits-turned;
+        lines = lines-turned;
+        memory = tt;
+        showable = record {
+          counts = ap (λ (counts : List ℕ). length (counts_or_shares w kept.clients counts)) none ∙ shares-many w kept.clients;
+          few = λ same. omega (arith, few, clients);
+          holders = ap (λ h. length h.items) holders ∙ tight.names ∙ sym clients;
+        };
+      }
+
+-- of an answer without a record all is kept
+itself-kept : (w : ℕ) (answer : Answer) → HadMemory answer → IsShowable w answer → IsKept w answer answer
+itself-kept w answer had showable = record { fits = λ command fits. fits; lines = λ command. refl; memory = had; showable = showable }
 
 -- what is kept of an answer that takes epochs on which nothing is carried
-pub kept-same : (old new : Epochs) (command : Command) (answer kept : Answer) → old.core.base ≡ 0 → TakesCommandTo old command answer new
-    → IsWithoutCounts answer kept
-    → IsKept old.core.network.table.width answer kept
-kept-same old new command (Replied reply) kept none takes same = subst (IsKept old.core.network.table.width (Replied reply)) (sym same) refl
-kept-same old new command (TurnRefused fault) kept none takes same =
-    subst (IsKept old.core.network.table.width (TurnRefused fault)) (sym same) refl
-kept-same old new command (Turned r) (Replied reply) none takes same = absurd same
-kept-same old new command (Turned r) (TurnRefused fault) none takes same = absurd same
-kept-same old new (Enter client entry) (Turned r) (Turned kept) none takes same = absurd takes
-kept-same old new (Step client) (Turned r) (Turned kept) none takes same = absurd takes
-kept-same old new Turn (Turned r) (Turned kept) none (quiet, said, tight, next) same =
-    record-kept old.core.network.table.width r kept (subst (λ base. IsTightRecord old.core.network.table.width base r) none tight) same
+pub is-kept : (old new : Epochs) (command : Command) (answer kept : Answer) → old.core.base ≡ 0 → length old.core.clients ≤ MOST_CLIENTS
+    → HadMemory answer → TakesCommandTo old command answer new
+    → IsWithoutCounts answer kept → IsKept old.core.network.table.width answer kept
+is-kept old new command (Replied reply) kept none few had takes same =
+    let w = old.core.network.table.width in subst (IsKept w (Replied reply)) (sym same) (itself-kept w (Replied reply) had tt)
+is-kept old new command (TurnRefused fault) kept none few had takes same =
+    let w = old.core.network.table.width in subst (IsKept w (TurnRefused fault)) (sym same) (itself-kept w (TurnRefused fault) had tt)
+is-kept old new command (Turned r) (Replied reply) none few had takes same = absurd same
+is-kept old new command (Turned r) (TurnRefused fault) none few had takes same = absurd same
+is-kept old new (Enter client entry) (Turned r) (Turned kept) none few had takes same = absurd takes
+is-kept old new (Step client) (Turned r) (Turned kept) none few had takes same = absurd takes
+is-kept old new Turn (Turned r) (Turned kept) none few had (quiet, said, tight, next) same =
+    let w = old.core.network.table.width in
+    turned-kept w r kept same (subst (λ base. IsTightRecord w base r) none tight) (omega (arith, few, said.clients))
 
-pub kept-whole : (old new : Epochs) (command : Command) (answer kept : Answer) → old.core.base ≡ 0 → length old.core.clients ≤ MOST_CLIENTS
-    → TakesCommandTo old command answer new
-    → IsWithoutCounts answer kept → IsWholeKept old.core.network.table.width kept
-kept-whole old new command (Replied reply) kept none few takes same = subst (IsWholeKept old.core.network.table.width) (sym same) tt
-kept-whole old new command (TurnRefused fault) kept none few takes same = subst (IsWholeKept old.core.network.table.width) (sym same) tt
-kept-whole old new command (Turned r) (Replied reply) none few takes same = absurd same
-kept-whole old new command (Turned r) (TurnRefused fault) none few takes same = absurd same
-kept-whole old new (Enter client entry) (Turned r) (Turned kept) none few takes same = absurd takes
-kept-whole old new (Step client) (Turned r) (Turned kept) none few takes same = absurd takes
-kept-whole old new Turn (Turned r) (Turned kept) none few (quiet, said, tight, next) same =
-    record-whole old.core.network.table.width r kept (subst (λ base. IsTightRecord old.core.network.table.width base r) none tight)
-    (omega (arith, few, said.clients)) same
-
--- what is kept fits the command
-fits-kept : (w : ℕ) (command : Command) (answer kept : Answer) → Fits command answer → IsKept w answer kept → Fits command kept
-fits-kept w (Enter client entry) (Replied reply) (Replied kept) fits same = subst IsEnterReply same fits
-fits-kept w (Step client) (Replied reply) (Replied kept) fits same = subst IsStepReply same fits
-fits-kept w Turn (Turned r) (Turned kept) fits same = tt
-fits-kept w Turn (TurnRefused fault) (TurnRefused kept) fits same = tt
-fits-kept w (Enter client entry) (Turned r) kept fits same = absurd fits
-fits-kept w (Enter client entry) (TurnRefused fault) kept fits same = absurd fits
-fits-kept w (Step client) (Turned r) kept fits same = absurd fits
-fits-kept w (Step client) (TurnRefused fault) kept fits same = absurd fits
-fits-kept w Turn (Replied reply) kept fits same = absurd fits
-fits-kept w (Enter client entry) (Replied reply) (Turned kept) fits same = absurd same
-fits-kept w (Enter client entry) (Replied reply) (TurnRefused kept) fits same = absurd same
-fits-kept w (Step client) (Replied reply) (Turned kept) fits same = absurd same
-fits-kept w (Step client) (Replied reply) (TurnRefused kept) fits same = absurd same
-fits-kept w Turn (Turned r) (Replied kept) fits same = absurd same
-fits-kept w Turn (Turned r) (TurnRefused kept) fits same = absurd same
-fits-kept w Turn (TurnRefused fault) (Replied kept) fits same = absurd same
-fits-kept w Turn (TurnRefused fault) (Turned kept) fits same = absurd same
-
+-- what is kept fits the commands
 pub fit-kept : (w : ℕ) (commands : List Command) (answers kept : List Answer) → AreAnswers commands answers → AllZip (IsKept w) answers kept
     → AreAnswers commands kept
-fit-kept w [] [] [] fit same = tt
-fit-kept w (c ∷ cs) (a ∷ rest) (k ∷ ks) fit same = (fits-kept w c a k fit.0 same.0, fit-kept w cs rest ks fit.1 same.1)
-fit-kept w [] [] (k ∷ ks) fit same = absurd same
-fit-kept w [] (a ∷ rest) kept fit same = absurd fit
-fit-kept w (c ∷ cs) [] kept fit same = absurd fit
-fit-kept w (c ∷ cs) (a ∷ rest) [] fit same = absurd same
+fit-kept w [] [] [] fit are = tt
+fit-kept w (c ∷ cs) (a ∷ rest) (k ∷ ks) fit are = (are.0.fits c fit.0, fit-kept w cs rest ks fit.1 are.1)
+fit-kept w [] [] (k ∷ ks) fit are = absurd are
+fit-kept w [] (a ∷ rest) kept fit are = absurd fit
+fit-kept w (c ∷ cs) [] kept fit are = absurd fit
+fit-kept w (c ∷ cs) (a ∷ rest) [] fit are = absurd are
 
--- and is not want of memory
-memory-kept : (w : ℕ) (answer kept : Answer) → HadMemory answer → IsKept w answer kept → HadMemory kept
-memory-kept w (Replied reply) (Replied kept) had same = subst (λ r. r ≢ EnterRefused EnterMemory) same had
-memory-kept w (TurnRefused fault) (TurnRefused kept) had same = subst (λ f. f ≢ Memory) same had
-memory-kept w (Turned r) (Turned kept) had same = tt
-memory-kept w (Replied reply) (Turned kept) had same = absurd same
-memory-kept w (Replied reply) (TurnRefused kept) had same = absurd same
-memory-kept w (TurnRefused fault) (Replied kept) had same = absurd same
-memory-kept w (TurnRefused fault) (Turned kept) had same = absurd same
-memory-kept w (Turned r) (Replied kept) had same = absurd same
-memory-kept w (Turned r) (TurnRefused kept) had same = absurd same
-
-pub all-memory : (w : ℕ) (answers kept : List Answer) → AllByRecursion HadMemory answers → AllZip (IsKept w) answers kept
-    → AllByRecursion HadMemory kept
-all-memory w [] [] had same = tt
-all-memory w (a ∷ rest) (k ∷ ks) had same = (memory-kept w a k had.0 same.0, all-memory w rest ks had.1 same.1)
-all-memory w [] (k ∷ ks) had same = absurd same
-all-memory w (a ∷ rest) [] had same = absurd same
+-- what holds of all that is kept
+pub all-kept : (w : ℕ) (P : Answer → Type 0) → ((answer kept : Answer) → IsKept w answer kept → P kept) → (answers kept : List Answer)
+    → AllZip (IsKept w) answers kept → All P kept
+all-kept w P of answers kept are = λ place default within.
+    of (get_or answers place default) (get_or kept place default)
+    (AllZip-get_or (IsKept w) answers kept place default default are (omega (arith, within, length_all_zip (IsKept w) answers kept are)))
 
 -- ---- the text of what is kept
 
@@ -149,7 +123,7 @@ pub replay-is : (network : Network) (old new : Epochs) (commands : List Command)
     → ByEpochHistories new (λ turns history carried. number ≡ turns)
     → ByEpochHistories new (λ turns history carried. entered ≡ enters_of history)
     → ByEpochHistories new (λ turns history carried. inside ≡ inside_of new.core.network.table history carried)
-    → (text : List ℕ) → text ≡ replay_text network commands answers number entered inside → IsReplayText network commands text
+    → (text : List ℕ) → text ≡ replay_text network commands kept number entered inside → IsReplayText network commands text
 replay-is network old new commands answers kept number entered inside begun agrees given same turned came within text is =
     let (may, after) = given.by_history 0 [] None agrees in
     let history : List Event = history_by_commands [] commands answers in
@@ -157,9 +131,12 @@ replay-is network old new commands answers kept number entered inside begun agre
     let last : inside ≡ inside_of network.table history (carried_by network.table []) =
     within (turns_by 0 answers) history None after
     ∙ ap (λ (n : Network). inside_of n.table history (carried_by n.table [])) (same ∙ ours) in
+    let lines = lines-by (IsKept network.table.width) network.table.width (λ answer kept is_kept. is_kept.lines) commands answers kept
+    (rw ours at given.are_kept) in
     record {
       answers = answers;
       by_history = rw ours at may;
       memory = given.memory;
-      replayed = is ∙ rw (turned (turns_by 0 answers) history None after, came (turns_by 0 answers) history None after, last) refl;
+      replayed = is
+          ∙ rw (sym lines, turned (turns_by 0 answers) history None after, came (turns_by 0 answers) history None after, last) refl;
     }

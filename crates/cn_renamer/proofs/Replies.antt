@@ -1,7 +1,6 @@
--- The answers of a run fit their commands, and their records are whole.
-use Rattle.std.proofs.Common.{ℕ, zero, suc, List, [], ◌∷◌, sym, ◌∙◌, subst, arith, Option, Some, None, inl, inr, nat_le}
+-- The answers of a run fit their commands.
+use Rattle.std.proofs.Common.{ℕ, List, [], ◌∷◌, sym, subst, Option, Some, None, inl, inr, nat_le}
 use Rattle.std.specs.Prelude.{Bool, true, false, is_some, if◌then◌else◌}
-use Rattle.std.specs.List.{All}
 use Rattle.cn_spec.specs.declared.limits.TheConstants.{MOST_CLIENTS}
 use Rattle.cn_wiring.specs.Table.{Table}
 use Rattle.cn_core.specs.declared.position.Position.{Position}
@@ -18,7 +17,7 @@ use Rattle.cn_ledger.specs.declared.answer.Answer.TheVariants.{Replied, Turned, 
 use Rattle.cn_ledger.specs.declared.command.Command.{Command}
 use Rattle.cn_ledger.specs.declared.command.Command.TheVariants.{Enter, Step, Turn}
 use Rattle.cn_epoch.specs.History.{MayAnswerCommand, MayAnswerCommands, history_after_command, kept_after, turns_after, earlier_in}
-use Rattle.cn_report.specs.Writing.Replay.{AreAnswers, Fits, IsEnterReply, IsStepReply, IsWhole}
+use Rattle.cn_report.specs.Writing.Replay.{AreAnswers, Fits, IsEnterReply, IsStepReply}
 
 -- ---- a reply by history fits its event
 
@@ -53,7 +52,7 @@ step-may : (table : Table) (h : List Event) (k : Carried) (client : ℕ) (reply 
 step-may table h k client reply (inl e) = subst IsStepReply (sym e) (step-replied table h k client)
 step-may table h k client reply (inr (entered, e)) = absurd (subst IsStepReply entered (step-replied table h k client))
 
--- ---- an answer fits its command, and its record is whole
+-- ---- an answer fits its command
 
 fits-may : (table : Table) (turns : ℕ) (h : List Event) (k : Carried) (command : Command) (answer : Answer)
     → MayAnswerCommand table turns h k command answer → Fits command answer
@@ -67,14 +66,6 @@ fits-may table turns h k Turn (Replied reply) may = may
 fits-may table turns h k Turn (Turned r) may = tt
 fits-may table turns h k Turn (TurnRefused fault) may = tt
 
-whole-may : (table : Table) (turns : ℕ) (h : List Event) (k : Carried) (command : Command) (answer : Answer)
-    → MayAnswerCommand table turns h k command answer → IsWhole table.width answer
-whole-may table turns h k command (Replied reply) may = tt
-whole-may table turns h k command (TurnRefused fault) may = tt
-whole-may table turns h k (Enter client entry) (Turned r) may = absurd may
-whole-may table turns h k (Step client) (Turned r) may = absurd may
-whole-may table turns h k Turn (Turned r) (quiet, said) = (said.exits, said.names ∙ sym said.clients)
-
 -- ---- so do all
 
 pub fits_all : (table : Table) (turns : ℕ) (h : List Event) (kept : Option (List (List Event))) (commands : List Command)
@@ -86,16 +77,3 @@ fits_all table turns h kept (c ∷ cs) (a ∷ rest) may = (
   fits-may table turns h (carried_by table (earlier_in kept)) c a may.0,
   fits_all table (turns_after turns a) (history_after_command h c a) (kept_after kept h a) cs rest may.1,
 )
-
-pub whole_all : (table : Table) (turns : ℕ) (h : List Event) (kept : Option (List (List Event))) (commands : List Command)
-    (answers : List Answer) → MayAnswerCommands table turns h kept commands answers → All (IsWhole table.width) answers
-whole_all table turns h kept [] [] may = λ k d l. absurd (omega arith)
-whole_all table turns h kept [] (a ∷ rest) may = absurd may
-whole_all table turns h kept (c ∷ cs) [] may = absurd may
-whole_all table turns h kept (c ∷ cs) (a ∷ rest) may =
-    by (whole-may table turns h (carried_by table (earlier_in kept)) c a may.0)
-    (whole_all table (turns_after turns a) (history_after_command h c a) (kept_after kept h a) cs rest may.1)
-  where
-    by : IsWhole table.width a → All (IsWhole table.width) rest → All (IsWhole table.width) (a ∷ rest)
-    by here later zero d l = here
-    by here later (suc k) d l = later k d (omega arith)

@@ -10,7 +10,7 @@ use Rattle.cn_epoch.specs.Calls.{AnswersCommandByHistory, RunsCommandsByHistory}
 use Rattle.cn_epoch.specs.History.{Epochs, MayAnswerCommands, history_by_commands, turns_by}
 use Rattle.cn_ledger.specs.Answers.{HadMemory}
 use Rattle.cn_report.specs.Reading.Records.{records_of}
-use Rattle.cn_report.specs.Writing.Replay.{IsKept, IsWholeKept, replay_text}
+use Rattle.cn_report.specs.Writing.Replay.{Fits, IsShowable, answer_line, replay_text}
 use Rattle.cn_report.specs.Reading.Schedule.{IsSchedule, IsScheduleFault}
 use Rattle.cn_report.specs.declared.reading.schedule_fault.ScheduleCause.{ScheduleCause}
 use Rattle.cn_report.specs.declared.reading.schedule_fault.ScheduleCause.TheVariants as cause
@@ -31,20 +31,25 @@ IsWithoutCounts (Turned r) (Turned kept) =
 IsWithoutCounts (Turned r) (Replied reply) = ⊥
 IsWithoutCounts (Turned r) (TurnRefused fault) = ⊥
 
+-- this is kept of an answer: it fits the commands that the answer fits, has the same lines, and can be shown
+pub record IsKept (width : ℕ) (answer kept : Answer) : Type 0 where
+  pub fits : (command : Command) → Fits command answer → Fits command kept
+  pub lines : (command : Command) → answer_line width command answer ≡ answer_line width command kept
+  pub memory : HadMemory kept
+  pub showable : IsShowable width kept
+
 -- the command has an answer by history, which is not want of memory, and this is kept of it
 pub record IsAnsweredAs (old : Epochs) (command : Command) (answer kept : Answer) (new : Epochs) : Type 0 where
   pub by_history : AnswersCommandByHistory old command answer new
   pub memory : HadMemory answer
-  pub same : IsKept old.core.network.table.width answer kept
-  pub whole : IsWholeKept old.core.network.table.width kept
+  pub is_kept : IsKept old.core.network.table.width answer kept
 
 -- so have the commands, one after another
 pub record AreAnsweredAs (old : Epochs) (commands : List Command) (answers kept : List Answer)
     (new : Epochs) : Type 0 where
   pub by_history : RunsCommandsByHistory old commands answers new
   pub memory : All HadMemory answers
-  pub same : AllZip (IsKept old.core.network.table.width) answers kept
-  pub whole : All (IsWholeKept old.core.network.table.width) kept
+  pub are_kept : AllZip (IsKept old.core.network.table.width) answers kept
 
 -- this text is that of a replay of the commands on epochs that nobody has entered: their answers by history, none of
 -- them want of memory

@@ -1,7 +1,7 @@
 -- What proofs of other crates cite of this one. They cite nothing else of proofs/.
 
--- answers that say the same have the same lines
-pub use Rattle.cn_report.proofs.WritingLemmas.SameLines.{lines-same}
+-- answers that say the same have the same lines, and so have others that have the same, place by place
+pub use Rattle.cn_report.proofs.WritingLemmas.SameLines.{lines-by, lines-same}
 -- what follows of bytes that are known
 pub use Rattle.cn_report.proofs.ReadingLemmas.FirstFaults.{known-map}
 -- a batch's numbers, and how many clients it has

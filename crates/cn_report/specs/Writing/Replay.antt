@@ -16,7 +16,7 @@ use Rattle.cn_ledger.specs.declared.command.Command.{Command}
 use Rattle.cn_ledger.specs.declared.command.Command.TheVariants.{Enter, Step, Turn}
 use Rattle.cn_ledger.specs.declared.record.EpochRecord.{EpochRecord}
 use Rattle.cn_wiring.specs.Network.{Network}
-use Rattle.cn_report.specs.Writing.Outcome.{IsWholeRecord, exit_lines, name_lines, outcome_lines}
+use Rattle.cn_report.specs.Writing.Outcome.{IsWholeRecord, exit_lines, name_lines}
 use Rattle.cn_report.specs.Writing.Text.{heading, line}
 
 -- an enter is entered or refused
@@ -83,9 +83,20 @@ step_line client reply = []
 unfoldable pub turn_line : ℕ → ℕ → List ℕ
 turn_line number clients = line (codes "turn" ∷ codes "epoch" ∷ decimal number ∷ codes "clients" ∷ decimal clients ∷ [])
 
+-- these counts, or if they are left out, the shares of so many clients
+abbrev pub counts_or_shares : ℕ → ℕ → List ℕ → List ℕ
+counts_or_shares width clients [] = shares_after 0 clients width
+counts_or_shares width clients (count ∷ counts) = count ∷ counts
+
+-- the counts that are shown of a record, which may leave them out
+abbrev pub shown_counts : ℕ → EpochRecord → List ℕ
+shown_counts width r = counts_or_shares width r.clients r.counts.items
+
 -- the epoch that a turn ended, and what it gave out
 abbrev pub record_lines : ℕ → EpochRecord → List ℕ
-record_lines width r = turn_line r.number r.clients ++ outcome_lines width r
+record_lines width r =
+    turn_line r.number r.clients
+    ++ (exit_lines width (shown_counts width r) ++ name_lines r.clients r.holders.items)
 
 -- a turn that is refused
 unfoldable pub not_quiet_line : ℕ → List ℕ
@@ -104,56 +115,17 @@ abbrev pub answer_lines : ℕ → List Command → List Answer → List ℕ
 answer_lines width commands answers =
     flat_map (λ (command, answer). answer_line width command answer) (zip commands answers)
 
--- these counts, or if they are left out, the shares of so many clients
-abbrev pub counts_or_shares : ℕ → ℕ → List ℕ → List ℕ
-counts_or_shares width clients [] = shares_after 0 clients width
-counts_or_shares width clients (count ∷ counts) = count ∷ counts
-
--- the counts of a record that may leave them out
-abbrev pub kept_counts : ℕ → EpochRecord → List ℕ
-kept_counts width kept = counts_or_shares width kept.clients kept.counts.items
-
--- the same record, with all its counts
-pub record IsKeptRecord (width : ℕ) (r kept : EpochRecord) : Type 0 where
-  pub number : r.number ≡ kept.number
-  pub clients : r.clients ≡ kept.clients
-  pub counts : r.counts.items ≡ kept_counts width kept
-  pub holders : r.holders.items ≡ kept.holders.items
-
--- the same answer, if the record of a turn may leave out its counts
-abbrev pub IsKept : ℕ → Answer → Answer → Type 0
-IsKept width (Replied reply) (Replied kept) = reply ≡ kept
-IsKept width (Turned r) (Turned kept) = IsKeptRecord width r kept
-IsKept width (TurnRefused fault) (TurnRefused kept) = fault ≡ kept
-IsKept width answer kept = ⊥
-
--- a record has a count for each exit, or none, and a holder for each client
-pub record IsWholeKeptRecord (width : ℕ) (kept : EpochRecord) : Type 0 where
-  pub counts : length (kept_counts width kept) ≡ width
-  pub few : kept.counts.items ≡ [] → kept.clients ≤ MOST_ARRIVALS
-  pub holders : length kept.holders.items ≡ kept.clients
+-- a record has a count for each exit, or leaves them out, and a holder for each client
+pub record IsShowableRecord (width : ℕ) (r : EpochRecord) : Type 0 where
+  pub counts : length (shown_counts width r) ≡ width
+  pub few : r.counts.items ≡ [] → r.clients ≤ MOST_ARRIVALS
+  pub holders : length r.holders.items ≡ r.clients
 
 -- the record of a turn that is done is so
-abbrev pub IsWholeKept : ℕ → Answer → Type 0
-IsWholeKept width (Turned kept) = IsWholeKeptRecord width kept
-IsWholeKept width (Replied reply) = Unit {0}
-IsWholeKept width (TurnRefused fault) = Unit {0}
-
--- the lines of a record that may leave out its counts
-abbrev pub kept_record_lines : ℕ → EpochRecord → List ℕ
-kept_record_lines width kept =
-    turn_line kept.number kept.clients
-    ++ (exit_lines width (kept_counts width kept) ++ name_lines kept.clients kept.holders.items)
-
--- a command and its answer, whose record may leave out its counts
-abbrev pub kept_line : ℕ → Command → Answer → List ℕ
-kept_line width Turn (Turned kept) = kept_record_lines width kept
-kept_line width command answer = answer_line width command answer
-
--- the commands and such answers, one after the other
-abbrev pub kept_lines : ℕ → List Command → List Answer → List ℕ
-kept_lines width commands answers =
-    flat_map (λ (command, answer). kept_line width command answer) (zip commands answers)
+abbrev pub IsShowable : ℕ → Answer → Type 0
+IsShowable width (Turned r) = IsShowableRecord width r
+IsShowable width (Replied reply) = Unit {0}
+IsShowable width (TurnRefused fault) = Unit {0}
 
 -- how many epochs ended, and how many clients of the open one entered and are inside
 unfoldable pub end_line : ℕ → ℕ → ℕ → List ℕ

@@ -15,7 +15,7 @@ use crate::grants::record::{Flaw, Granted};
 use std::alloc::{AllocError, Global};
 
 /// A name that an epoch lacks.
-#[derive(Clone, Copy, Debug, PartialEq, Eq)]
+#[derive(Clone, Copy)]
 pub(crate) struct Gap {
     pub(crate) epoch: u64,
     pub(crate) name: u64,

@@ -15,7 +15,7 @@ use std::alloc::AllocError;
 use std::fmt;
 
 /// A client that got a name in an epoch.
-#[derive(Clone, Copy, Debug, PartialEq, Eq)]
+#[derive(Clone, Copy)]
 pub(crate) struct Granted {
     pub(crate) epoch: u64,
     pub(crate) client: u64,
@@ -23,7 +23,7 @@ pub(crate) struct Granted {
 }
 
 /// What is wrong with a record of a grant list.
-#[derive(Clone, Copy, Debug, PartialEq, Eq)]
+#[derive(Clone, Copy)]
 pub(crate) enum GrantCause {
     Read,
     Form,

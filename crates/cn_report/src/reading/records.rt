@@ -13,7 +13,7 @@ use std::alloc::{AllocError, Global};
 use std::io::Read;
 
 /// Why no record came.
-#[derive(Clone, Copy, Debug, PartialEq, Eq)]
+#[derive(Clone, Copy)]
 pub(crate) enum RecordFault {
     /// The reader failed.
     Read,

@@ -1,13 +1,12 @@
 //! The text of a replay.
 
-ghost use Rattle.std.specs.Prelude.{◌≡◌, ◌≤◌, List};
-ghost use Rattle.std.specs.List.{All, AllZip};
+ghost use Rattle.std.specs.Prelude.{◌≡◌, ◌≤◌};
+ghost use Rattle.std.specs.List.{All};
 ghost use Rattle.cn_spec.specs.declared.limits.TheConstants.{MOST_ENDS};
 ghost use Rattle.cn_ledger.specs.Answers.{HadMemory};
-ghost use Rattle.cn_ledger.specs.declared.answer.Answer.{Answer};
 ghost use Rattle.cn_report.specs.Writing.Outcome.{exit_lines};
 ghost use Rattle.cn_report.specs.Writing.Pieces.{Puts, RestsIfFailed, nothing_put};
-ghost use Rattle.cn_report.specs.Writing.Replay.{AreAnswers, Fits, IsKept, IsWholeKept, IsWholeKeptRecord, end_line, kept_counts, kept_line, kept_lines, kept_record_lines, not_quiet_line, replay_text, turn_line};
+ghost use Rattle.cn_report.specs.Writing.Replay.{AreAnswers, Fits, IsShowable, IsShowableRecord, answer_line, answer_lines, end_line, not_quiet_line, record_lines, replay_text, shown_counts, turn_line};
 ghost use Rattle.cn_report.specs.Writing.Written.{First, HasWritten, written_by};
 
 use crate::writing::emitting::EmitFault;
@@ -40,11 +39,11 @@ fn send_turn<W: Write>(pieces: &mut Pieces, writer: &mut W, number: u64, clients
 }
 
 /// Sends a line for each exit and its count, which is its share of the clients if the counts are left out.
-fn send_kept_counts<W: Write>(pieces: &mut Pieces, writer: &mut W, width: u32, epoch: &EpochRecord)
+fn send_shown_counts<W: Write>(pieces: &mut Pieces, writer: &mut W, width: u32, epoch: &EpochRecord)
     requires width { width ≤ MOST_ENDS }
-    requires whole { IsWholeKeptRecord width epoch.now }
+    requires showable { IsShowableRecord width epoch.now }
     ensures { Puts W.contents writer.old writer.new pieces.old pieces.new
-        (exit_lines width (kept_counts width epoch.now)) }
+        (exit_lines width (shown_counts width epoch.now)) }
 {
     if epoch.counts.is_empty() {
         send_counts(pieces, writer, width, 0, epoch.clients);
@@ -56,11 +55,11 @@ fn send_kept_counts<W: Write>(pieces: &mut Pieces, writer: &mut W, width: u32, e
 /// Sends what an epoch gave out: the line of its turn, its exits and its names.
 fn send_record<W: Write>(pieces: &mut Pieces, writer: &mut W, width: u32, epoch: &EpochRecord)
     requires width { width ≤ MOST_ENDS }
-    requires whole { IsWholeKeptRecord width epoch.now }
-    ensures { Puts W.contents writer.old writer.new pieces.old pieces.new (kept_record_lines width epoch.now) }
+    requires showable { IsShowableRecord width epoch.now }
+    ensures { Puts W.contents writer.old writer.new pieces.old pieces.new (record_lines width epoch.now) }
 {
     send_turn(pieces, writer, epoch.number, epoch.clients);
-    send_kept_counts(pieces, writer, width, epoch);
+    send_shown_counts(pieces, writer, width, epoch);
     send_holders(pieces, writer, &epoch.holders);
 }
 
@@ -84,8 +83,8 @@ fn send_answer<W: Write>(
     requires width { width ≤ MOST_ENDS }
     requires fits { Fits command answer.now }
     requires memory { HadMemory answer.now }
-    requires whole { IsWholeKept width answer.now }
-    ensures puts { Puts W.contents writer.old writer.new pieces.old pieces.new (kept_line width command answer.now) }
+    requires showable { IsShowable width answer.now }
+    ensures puts { Puts W.contents writer.old writer.new pieces.old pieces.new (answer_line width command answer.now) }
     ensures rests { RestsIfFailed writer.old writer.new pieces.old pieces.new }
 {
     if pieces.has_failed() {
@@ -117,9 +116,9 @@ fn send_answers<W: Write>(
     requires width { width ≤ MOST_ENDS }
     requires fit { AreAnswers commands.now answers.now }
     requires memory { All HadMemory answers.now }
-    requires whole { All (IsWholeKept width) answers.now }
+    requires showable { All (IsShowable width) answers.now }
     ensures { Puts W.contents writer.old writer.new pieces.old pieces.new
-        (kept_lines width commands.now answers.now) }
+        (answer_lines width commands.now answers.now) }
 {
     for (position, answer) in answers.iter().enumerate() {
         send_answer(pieces, writer, width, commands[position], answer);
@@ -143,8 +142,8 @@ fn send_end<W: Write>(pieces: &mut Pieces, writer: &mut W, last: OpenEpoch)
 /// the open one entered and are inside.
 ///
 /// The answers fit the commands one by one, and none is want of memory. This holds if they are those of epochs of the
-/// network. The record of a turn may leave out its counts if they are the shares of its clients, of which there are at
-/// most [`cn_spec::limits::MOST_ARRIVALS`]. It takes no memory.
+/// network. The record of a turn may leave out its counts: then the shares of its clients are written, of which there
+/// are at most [`cn_spec::limits::MOST_ARRIVALS`]. It takes no memory.
 ///
 /// # Errors
 /// `EmitFault` if a write fails, is interrupted or takes no byte: nothing is written after it, and the bytes written
@@ -154,22 +153,21 @@ pub fn write_replay<W: Write>(
     pieces: Pieces,
     network: &Counting,
     commands: &[Command],
-    kept: &[Answer],
+    answers: &[Answer],
     last: OpenEpoch,
 ) -> Result<(), EmitFault>
     requires fresh { pieces ≡ nothing_put }
-    requires fit { AreAnswers commands.now kept.now }
-    requires memory { All HadMemory kept.now }
-    requires whole { All (IsWholeKept network.now.table.width) kept.now }
-    ensures { (answers : List Answer) → AllZip (IsKept network.now.table.width) answers kept.now
-        → let written = written_by (λ fault. First fault.written) result in
+    requires fit { AreAnswers commands.now answers.now }
+    requires memory { All HadMemory answers.now }
+    requires showable { All (IsShowable network.now.table.width) answers.now }
+    ensures { let written = written_by (λ fault. First fault.written) result in
         HasWritten W.contents (λ text. text
-        ≡ replay_text network.now commands.now answers last.number last.entered last.inside) written
+        ≡ replay_text network.now commands.now answers.now last.number last.entered last.inside) written
         writer.old writer.new }
 {
     let mut pieces = pieces;
     send_heading(&mut pieces, writer, network);
-    send_answers(&mut pieces, writer, network.width(), commands, kept);
+    send_answers(&mut pieces, writer, network.width(), commands, answers);
     send_end(&mut pieces, writer, last);
     pieces.finish(writer)
 }

@@ -1,6 +1,6 @@
 use Rattle.std.proofs.Common.{◌≡◌, ◌∙◌, rules, sym}
 use Rattle.cn_ledger.specs.Answers.{HadMemory}
-use Rattle.cn_renamer.proofs.Kept.{kept-same, kept-whole}
+use Rattle.cn_renamer.proofs.Kept.{is-kept}
 use Rattle.cn_renamer.proofs.replaying.kept_answer.Goals as goal
 
 pub returns-clause-answered : goal.returns-clause-answered
@@ -12,9 +12,7 @@ returns-clause-answered c =
       record {
         by_history = c.answer-answer.ensures.history;
         memory = memory;
-        same = kept-same old c.answer-answer.new.self c.args.command c.answer-answer.result c.without_counts.result none
-            c.answer-answer.ensures.event c.without_counts.ensures;
-        whole = kept-whole old c.answer-answer.new.self c.args.command c.answer-answer.result c.without_counts.result none
-            c.state_laws.ensures.few c.answer-answer.ensures.event c.without_counts.ensures;
+        is_kept = is-kept old c.answer-answer.new.self c.args.command c.answer-answer.result c.without_counts.result none
+            c.state_laws.ensures.few memory c.answer-answer.ensures.event c.without_counts.ensures;
       },
     )

@@ -4,7 +4,7 @@ use Rattle.cn_ledger.specs.Answers.{HadMemory}
 use Rattle.cn_ledger.specs.declared.answer.Answer.{Answer}
 use Rattle.cn_epoch.specs.Calls.{RunsCommandsByHistory}
 use Rattle.cn_epoch.specs.History.{Epochs}
-use Rattle.cn_report.specs.Writing.Replay.{IsKept, IsWholeKept}
+use Rattle.cn_renamer.specs.Replay.{IsKept}
 use Rattle.cn_renamer.proofs.replaying.kept_answers.Given as goal
 
 -- a run of what is left completes the run
@@ -18,5 +18,4 @@ invariant-loop-command l = record {
   answered : (done : List Answer) × All HadMemory done × AllZip (IsKept l.fn.epochs.core.network.table.width) done l.answers.items
       × ((rest : List Answer) (new : Epochs) → RunsCommandsByHistory l.epochs (drop l.command-index l.commands) rest new
       → RunsCommandsByHistory l.fn.epochs l.commands (done ++ rest) new);
-  whole : All (IsWholeKept l.fn.epochs.core.network.table.width) l.answers.items;
 }

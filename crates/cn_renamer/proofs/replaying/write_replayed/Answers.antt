@@ -1,12 +1,12 @@
 use Rattle.std.proofs.Common.{[], None, ap}
-use Rattle.std.proofs.lemmas.List.Elements.{All-from_recursion, recursion_from_All}
 use Rattle.std.proofs.lemmas.Result.{err_from_is_err_and}
 use Rattle.cn_ledger.specs.Answers.{HadMemory}
 use Rattle.cn_report.proofs.CallerLemmas.{written-map}
+use Rattle.cn_report.specs.Writing.Replay.{IsShowable}
 use Rattle.cn_report.specs.Writing.Written.{First}
 use Rattle.cn_epoch.specs.History.{Epochs}
 use Rattle.cn_renamer.specs.Replay.{IsReplayText}
-use Rattle.cn_renamer.proofs.Kept.{all-memory, fit-kept, replay-is}
+use Rattle.cn_renamer.proofs.Kept.{all-kept, fit-kept, replay-is}
 use Rattle.cn_renamer.proofs.Replies.{fits_all}
 use Rattle.cn_renamer.proofs.replaying.write_replayed.Goals as goal
 
@@ -15,40 +15,38 @@ write_replay-requires-clause-fit g c =
     let (answers, given) = c.in_ok-kept.ensures.answered in
     let network = c.args.epochs.now.core.network in
     rw c.deref.ensures.value (fit-kept network.table.width c.args.commands.now answers c.in_ok-kept.kept.items
-    (fits_all network.table 0 [] None c.args.commands.now answers (given.by_history 0 [] None c.requires.agrees).0) given.same)
+    (fits_all network.table 0 [] None c.args.commands.now answers (given.by_history 0 [] None c.requires.agrees).0) given.are_kept)
 
 pub write_replay-requires-clause-memory : goal.write_replay-requires-clause-memory
 write_replay-requires-clause-memory g c =
     let (answers, given) = c.in_ok-kept.ensures.answered in
-    rw c.deref.ensures.value
-    (All-from_recursion HadMemory c.in_ok-kept.kept.items
-    (all-memory c.args.epochs.now.core.network.table.width answers c.in_ok-kept.kept.items
-    (recursion_from_All HadMemory answers given.memory) given.same))
+    rw c.deref.ensures.value (all-kept c.args.epochs.now.core.network.table.width HadMemory (λ answer kept is. is.memory)
+    answers c.in_ok-kept.kept.items given.are_kept)
 
-pub write_replay-requires-clause-whole : goal.write_replay-requires-clause-whole
-write_replay-requires-clause-whole g c =
+pub write_replay-requires-clause-showable : goal.write_replay-requires-clause-showable
+write_replay-requires-clause-showable g c =
     let (answers, given) = c.in_ok-kept.ensures.answered in
     let network = ap (λ (e : Epochs). e.core.network) c.requires.begun in
-    rw c.deref.ensures.value (rw network at given.whole)
+    let width = c.args.network.now.table.width in
+    rw c.deref.ensures.value (all-kept width (IsShowable width) (λ answer kept is. is.showable)
+    answers c.in_ok-kept.kept.items (rw network at given.are_kept))
 
 pub returns-in_err-write_replay : goal.returns-in_err-write_replay
 returns-in_err-write_replay g c =
     let fault = err_from_is_err_and c.from_residual-in_err-write_replay.result c.from_residual-in_err-write_replay.ensures.1 in
     let (answers, given) = c.in_ok-kept.ensures.answered in
-    let network = ap (λ (e : Epochs). e.core.network) c.requires.begun in
-    let writes = (rw c.deref.ensures.value at c.in_err-write_replay.ensures) answers (rw network at given.same) in
     rw (fault.1, fault.2) (
     written-map g.W.Write.contents _ (IsReplayText c.args.network.now c.args.commands.now) (First c.in_err-write_replay.field-0.0.written)
     c.args.writer.now c.write_replay.new.writer
     (replay-is c.args.network.now c.args.epochs.now c.kept_answers.new.epochs c.args.commands.now answers c.in_ok-kept.kept.items
     c.number.result c.entered.result c.inside.result c.requires.begun c.requires.agrees given
-    c.in_ok-kept.ensures.network c.number.ensures.by_turns c.entered.ensures.by_history c.inside.ensures.by_history) writes)
+    c.in_ok-kept.ensures.network c.number.ensures.by_turns c.entered.ensures.by_history c.inside.ensures.by_history)
+    (rw c.deref.ensures.value at c.in_err-write_replay.ensures))
 
 pub returns : goal.returns
 returns g c =
     let (answers, given) = c.in_ok-kept.ensures.answered in
-    let network = ap (λ (e : Epochs). e.core.network) c.requires.begun in
-    let (text, is, grows) = (rw c.deref.ensures.value at c.in_ok-write_replay.ensures) answers (rw network at given.same) in (
+    let (text, is, grows) = rw c.deref.ensures.value at c.in_ok-write_replay.ensures in (
       text,
       replay-is c.args.network.now c.args.epochs.now c.kept_answers.new.epochs c.args.commands.now answers c.in_ok-kept.kept.items
           c.number.result c.entered.result c.inside.result c.requires.begun c.requires.agrees given

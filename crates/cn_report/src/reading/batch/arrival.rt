@@ -13,7 +13,7 @@ use crate::reading::records::{field, is_header, is_short_header};
 use csv::ByteRecord;
 
 /// How the records of a batch give the entry by which a client comes.
-#[derive(Clone, Copy, Debug, PartialEq, Eq)]
+#[derive(Clone, Copy)]
 pub(crate) enum Heading {
     /// `epoch,client,entry`: in a field of its own.
     WithEntry,
@@ -35,7 +35,7 @@ pub(crate) fn heading_of(fields: &ByteRecord) -> Option<Heading>
 }
 
 /// A client that comes in an epoch by an entry.
-#[derive(Clone, Copy, Debug, PartialEq, Eq)]
+#[derive(Clone, Copy)]
 pub(crate) struct Arrival {
     pub(crate) epoch: u64,
     pub(crate) client: u64,

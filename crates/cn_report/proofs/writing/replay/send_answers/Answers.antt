@@ -4,7 +4,7 @@ use Rattle.cn_ledger.specs.declared.answer.Answer.{Answer}
 use Rattle.cn_ledger.specs.declared.command.Command.{Command}
 use Rattle.cn_ledger.specs.declared.command.Command.TheVariants.{Enter}
 use Rattle.cn_ledger.specs.Answers.{HadMemory}
-use Rattle.cn_report.specs.Writing.Replay.{Fits, IsWholeKept, kept_line}
+use Rattle.cn_report.specs.Writing.Replay.{Fits, IsShowable, answer_line}
 use Rattle.cn_report.proofs.WritingLemmas.Putting.{put-last, put-next}
 use Rattle.cn_report.proofs.WritingLemmas.SameLines.{zipped_at}
 use Rattle.cn_report.proofs.writing.replay.send_answers.Goals as goal
@@ -24,11 +24,11 @@ send_answer-requires-clause-memory g c =
     rw answer.is (All-get_or HadMemory c.args.answers.now c.loop-position.position answer.result c.loop-position-test.true
     c.requires.memory)
 
-pub send_answer-requires-clause-whole : goal.send_answer-requires-clause-whole
-send_answer-requires-clause-whole g c =
+pub send_answer-requires-clause-showable : goal.send_answer-requires-clause-showable
+send_answer-requires-clause-showable g c =
     let answer = c.index-answers-position in
-    rw answer.is (All-get_or (IsWholeKept c.args.width) c.args.answers.now c.loop-position.position answer.result c.loop-position-test.true
-    c.requires.whole)
+    rw answer.is (All-get_or (IsShowable c.args.width) c.args.answers.now c.loop-position.position answer.result c.loop-position-test.true
+    c.requires.showable)
 
 pub loop-position-preserved : goal.loop-position-preserved
 loop-position-preserved g c =
@@ -43,7 +43,7 @@ loop-position-preserved g c =
     let at : (command, answer.result) ≡ get_or (zip commands answers) i (Enter 0 0, answer.result) =
     ap (λ (a : Answer). (command, a)) answer.is
     ∙ sym (get_or-zip commands answers i (Enter 0 0, answer.result) far c.loop-position-test.true) in
-    put-next (λ (command, answer). kept_line c.args.width command answer) (zip commands answers) i (Enter 0 0, answer.result)
+    put-next (λ (command, answer). answer_line c.args.width command answer) (zip commands answers) i (Enter 0 0, answer.result)
     (command, answer.result) (omega (arith, long, many, c.loop-position-test.true)) at
     c.loop-position.invariant c.send_answer.ensures.puts
 
@@ -53,5 +53,5 @@ returns g c =
     let answers = c.args.answers.now in
     let many = AllZip-long Fits commands answers c.requires.fit in
     let long = length-zip commands answers in
-    put-last (λ (command, answer). kept_line c.args.width command answer) (zip commands answers) c.loop-position.position
+    put-last (λ (command, answer). answer_line c.args.width command answer) (zip commands answers) c.loop-position.position
     (omega (arith, long, many, c.loop-position-test.false)) c.loop-position.invariant

@@ -3,4 +3,4 @@ use Rattle.cn_report.proofs.writing.replay.send_record.Goals as goal
 
 pub returns : goal.returns
 returns g c = put-then c.send_turn.ensures
-    (put-then c.send_kept_counts.ensures (rw (c.deref.ensures.value, c.requires.whole.holders) at c.send_holders.ensures))
+    (put-then c.send_shown_counts.ensures (rw (c.deref.ensures.value, c.requires.showable.holders) at c.send_holders.ensures))

@@ -1,20 +1,18 @@
-use Rattle.cn_report.proofs.Common.{arith, sym}
+use Rattle.cn_report.proofs.Common.{arith}
 use Rattle.cn_report.specs.Writing.Replay.{replay_text}
-use Rattle.cn_report.proofs.WritingLemmas.Putting.{put-all, put-same, put-then}
-use Rattle.cn_report.proofs.WritingLemmas.SameLines.{lines-kept}
+use Rattle.cn_report.proofs.WritingLemmas.Putting.{put-all, put-then}
 use Rattle.cn_report.proofs.writing.replay.write_replay.Goals as goal
 
 pub send_answers-requires-clause-width : goal.send_answers-requires-clause-width
 send_answers-requires-clause-width g c = omega (arith, c.width.ensures.value, c.width.ensures.network.formed.width.1)
 
-pub send_answers-requires-clause-whole : goal.send_answers-requires-clause-whole
-send_answers-requires-clause-whole g c = rw c.width.ensures.value c.requires.whole
+pub send_answers-requires-clause-showable : goal.send_answers-requires-clause-showable
+send_answers-requires-clause-showable g c = rw c.width.ensures.value c.requires.showable
 
 pub returns : goal.returns
-returns g c answers same =
-    let network = c.args.network.now in
+returns g c =
     let last = c.args.last in
-    let lines = put-same (sym (lines-kept network.table.width c.args.commands.now answers c.args.kept.now same))
-    (rw c.width.ensures.value at c.send_answers.ensures) in
-    c.finish.ensures c.args.writer.now (replay_text network c.args.commands.now answers last.number last.entered last.inside)
-    (put-all c.requires.fresh (put-then (put-then c.send_heading.ensures lines) c.send_end.ensures))
+    c.finish.ensures c.args.writer.now
+    (replay_text c.args.network.now c.args.commands.now c.args.answers.now last.number last.entered last.inside)
+    (put-all c.requires.fresh
+    (put-then (put-then c.send_heading.ensures (rw c.width.ensures.value at c.send_answers.ensures)) c.send_end.ensures))
