@@ -1,6 +1,7 @@
 -- Where lanes end that are handed back, and why joins stop.
 use Rattle.std.specs.Prelude.{◌≡◌, ◌⊎◌, ℕ, Option, None, Some, ⊤}
 use Rattle.cn_floor.specs.Lane.{LaneValue}
+use Rattle.renamer_c.specs.Handles.{back_held}
 use Rattle.renamer_c.specs.Looking.{IsNoneBack, IsWhole}
 use Rattle.renamer_c.specs.Placing.{IsPut, IsUnturned}
 use Rattle.renamer_c.specs.Refusals.{WithLane}
@@ -17,11 +18,11 @@ use Rattle.renamer_c.specs.declared.searches.Search.{Search}
 use Rattle.renamer_c.specs.declared.searches.TheConstants.{MOST_JOINS}
 
 -- where a lane ends that is handed back: it is at its place; or its floor, of which it was the only lane, is here; or
--- it is here, since its place was not its own
+-- it is here, in its box, since its place was not its own
 abbrev pub EndsSomewhere : LaneValue → Handed → Type 0
 EndsSomewhere lane (AtPlace p ended) = IsPut lane p
 EndsSomewhere lane (WithFloor floor) = floor ≡ lane.home
-EndsSomewhere lane (NotItsOwn u here) = IsUnturned 2 u × (here ≡ lane)
+EndsSomewhere lane (NotItsOwn u here) = IsUnturned 2 u × (back_held here.value ≡ Some lane)
 
 -- what a join leaves that stops: if no lane was back, what was seen; and where one is that was back, for whose grants
 -- there is no room

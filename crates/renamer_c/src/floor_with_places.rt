@@ -56,7 +56,7 @@ pub(crate) enum Handed {
     /// Nowhere, since its floor has no other lane, and goes too.
     WithFloor(FloorWithPlaces),
     /// Here, since its place was not its own, which no call makes it.
-    NotItsOwn(Unturned, Lane),
+    NotItsOwn(Unturned, Box<Kept>),
 }
 
 /// A share of a floor: lanes own their floor together. It is there until its close takes it out.
@@ -153,7 +153,7 @@ impl FloorWithPlaces {
                 let ended = Ended::after(&put, &self.returns);
                 Handed::AtPlace(put, ended)
             }
-            Err((other, lane)) => Handed::NotItsOwn(other, lane),
+            Err((other, boxed)) => Handed::NotItsOwn(other, boxed),
         }
     }
 }

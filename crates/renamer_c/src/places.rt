@@ -1,7 +1,7 @@
 //! Places for lanes that are handed back: each lane has one of its own from its split on.
 
 ghost use Rattle.std.specs.Arc.{arc_value};
-ghost use Rattle.std.specs.Prelude.{◌≡◌, ◌<◌, IfErr, IfOk, IsSomeAnd};
+ghost use Rattle.std.specs.Prelude.{◌≡◌, ◌<◌, Some, IfErr, IfOk, IsSomeAnd};
 ghost use Rattle.renamer_c.specs.Handles.{back_held};
 ghost use Rattle.renamer_c.specs.Placing.{IsNotIn, IsPlaceOf, IsPut};
 ghost use Rattle.renamer_c.specs.Returns.{IsBack};
@@ -89,17 +89,17 @@ impl Place {
     /// Puts a lane there, in this box: by a load, a compare-exchange and a store, whatever other threads do.
     ///
     /// # Errors
-    /// The lane, if the place was not its owner's own, which no call makes it.
+    /// The lane, in its box, if the place was not its owner's own, which no call makes it.
     pub(crate) fn put(
         self,
         floor: &Floor<'static>,
         lane: Lane,
         boxed: Box<Kept>,
-    ) -> Result<Put, (Unturned, Lane)>
+    ) -> Result<Put, (Unturned, Box<Kept>)>
         requires place { IsPlaceOf floor.now self }
         requires lane { IsBack floor.now lane }
         ensures ok { IfOk result (IsPut lane) }
-        ensures err { IfErr result (λ r. IsNotIn self.spot 2 r.0 × (r.1 ≡ lane)) }
+        ensures err { IfErr result (λ r. IsNotIn self.spot 2 r.0 × (back_held r.1.value ≡ Some lane)) }
     {
         let put = put_at(&self, floor, lane, boxed);
         self.go_with_floor();

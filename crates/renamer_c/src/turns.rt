@@ -3,7 +3,8 @@
 //! clause says, since none says what a shared word holds.
 
 ghost use Rattle.std.specs.Arc.{arc_value};
-ghost use Rattle.std.specs.Prelude.{◌≡◌, ◌≢◌, ◌<◌, IfErr, IfOk, length};
+ghost use Rattle.std.specs.Prelude.{◌≡◌, ◌≢◌, ◌<◌, Some, IfErr, IfOk, length};
+ghost use Rattle.renamer_c.specs.Handles.{back_held};
 ghost use Rattle.renamer_c.specs.Placing.{IsFound, IsNotIn, IsPlaceOf, IsPut, IsRowOf, IsSharedRowOf};
 ghost use Rattle.renamer_c.specs.Returns.{IsBack};
 ghost use Rattle.renamer_c.specs.declared.places.Spot.{Spot};
@@ -156,27 +157,28 @@ pub(crate) fn free_place(place: &Place, floor: &Floor<'static>)
 /// Puts a lane, in this box, at a place that is its own (`MARKED`).
 ///
 /// # Errors
-/// The lane, if the place was not its own.
+/// The lane, in the box, if the place was not its own.
 pub(crate) fn put_at(
     place: &Place,
     floor: &Floor<'static>,
     lane: Lane,
     mut boxed: Box<Kept>,
-) -> Result<Put, (Unturned, Lane)>
+) -> Result<Put, (Unturned, Box<Kept>)>
     requires place { IsPlaceOf floor.now place.now }
     requires lane { IsBack floor.now lane }
     ensures ok { IfOk result (IsPut lane) }
-    ensures err { IfErr result (λ r. IsNotIn place.now.spot 2 r.0 × (r.1 ≡ lane)) }
+    ensures err { IfErr result (λ r. IsNotIn place.now.spot 2 r.0 × (back_held r.1.value ≡ Some lane)) }
 {
-    let claim = match turn_place(place.row(), place.spot(), MARKED, floor) {
-        Ok(claim) => claim,
-        Err(other) => return Err((other, lane)),
-    };
     let put = Put {
         lane: Snapshot::of(&lane),
         word: PRESENT,
     };
     *boxed = Held::Back(lane);
-    let _ = claim.put(Some(Returned::of(boxed)), PRESENT);
-    Ok(put)
+    match turn_place(place.row(), place.spot(), MARKED, floor) {
+        Ok(claim) => {
+            let _ = claim.put(Some(Returned::of(boxed)), PRESENT);
+            Ok(put)
+        }
+        Err(other) => Err((other, boxed)),
+    }
 }
