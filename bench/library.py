@@ -19,10 +19,12 @@ Several threads are compared by the clock, each way to the add by as many thread
 rounds, in which all ways run in turn; a run is the median of five epochs after a first, in which its memory comes from
 the system. It measures the names only, and not what is made before. Rows of lanes are what a lane takes without a name,
 by one thread: split off, handed back and joined, with as many there as the row says; the same of every eighth by turns,
-while the others are out; and a join while none is back. The rows of slabs are left out if the folder of crates has
-none, and that of C++ if its header is not there.
+while the others are out; and a join while none is back. Rows of slots are what it takes to take one of so many and to
+give it back, while the others are free or out; and the same of 1,000 by a free list behind a mutex, by a bitmap, and by
+boost's stack and queue without a lock. The rows of slabs are left out if the folder of crates has none, and those of
+C++ if a header is not there.
 """
-import pathlib
+import os
 import statistics
 
 import measure
@@ -33,6 +35,9 @@ THREADS = {1: "one thread", 2: "two threads", 4: "four threads"}
 LANES = (1, 8, 64, 1000, 100000)
 BY_LANES = {"lanes": "split off, handed back and joined", "eighth": "with seven eighths of them out",
             "none": "a join with none back"}
+# How many slots there are, and of how many other pools are.
+SLOTS, POOLED = (8, 1000, 100000), 1000
+BY_SLOTS = {"slots": "taken and given back", "last": "the last of them"}
 TABLE, ADD, ADD_MANY, REFUSED = "a mutex and table", "the add", "the add of 64", "a refused call"
 # How many adds a name is, and a take.
 ADDS = {"tree 2": 3, "tree 64": 8, "bitonic 64": 23}
@@ -42,14 +47,17 @@ PEERS = {ADD: "add", ADD_MANY: "add-many", "the add and an array": "holders", "a
          TABLE: "table"}
 SLABS = {"a mutex and slab": "slab", "a mutex and slab, given back": "slab-back",
          "a sharded slab": "sharded", "a sharded slab, given back": "sharded-back"}
-VECTOR, VECTOR_HEADER = "a concurrent vector", "/usr/include/tbb/concurrent_vector.h"
+IN_C = {"a concurrent vector": "vector"}
+POOLS = {"a mutex and free list": "list", "a bitmap": "bitmap", "a stack without a lock": "stack",
+         "a queue without a lock": "queue"}
+HEADERS = "/usr/include/tbb/concurrent_vector.h", "/usr/include/boost/lockfree/stack.hpp"
 BY_LISTS = (" by lists of 64", " by takes of 64")
 ALL_OVER = {f"{network} {width} by all entries": ["all-over", network, str(width)]
             for network, width in NETWORKS if network == "bitonic"}
 APART = {f"{network} {width} apart": ["apart", network, str(width)] for network, width in NETWORKS if width > 2}
 
 
-def ways(namers, slabs, vector):
+def ways(namers, slabs, peers):
     """The words of each way but those of its threads and rounds."""
     found = {name: [namers, word] for name, word in PEERS.items()}
     for network, width in NETWORKS:
@@ -59,7 +67,16 @@ def ways(namers, slabs, vector):
         found[f"{network} {width} by takes of 64"] = [namers, "take-many", network, str(width)]
     found |= {name: [namers, *words] for name, words in APART.items()}
     found |= {name: [slabs, word] for name, word in SLABS.items() if slabs}
-    return found | ({VECTOR: [vector]} if vector else {})
+    return found | {name: [peers, word] for name, word in (IN_C | POOLS).items() if peers}
+
+
+def lanes_and_slots(namers):
+    """The words of each way of lanes and slots, by its threads."""
+    found = {(f"{lanes} lane{'s' * (lanes > 1)}, {what}", 1): [namers, word, str(lanes), "1"]
+             for word, what in BY_LANES.items() for lanes in LANES}
+    return found | {(f"{slots} slots, {what}", threads): [namers, word, str(slots), str(threads)]
+                    for word, what in BY_SLOTS.items() for slots in SLOTS
+                    for threads in (THREADS if (word, slots) == ("slots", POOLED) else (1,))}
 
 
 def measured(bench, jobs):
@@ -83,14 +100,13 @@ def compared(spent, job, other, by):
 def rows(bench):
     namers = bench.cargo("library", "namers", library=True)
     slabs = bench.cargo("slabs", "slabs") if bench.has_crates("slab", "sharded-slab") else None
-    has_vector, compiler = pathlib.Path(VECTOR_HEADER).exists(), ["c++", "-O3", "-Wl,--no-as-needed", "-ltbb"]
-    vector = bench.compiled(compiler, "library/vector.cpp", "vector") if has_vector else None
-    found = ways(namers, slabs, vector)
+    are_there, compiler = all(map(os.path.exists, HEADERS)), ["c++", "-O3", "-Wl,--no-as-needed", "-ltbb"]
+    peers = bench.compiled(compiler, "library/peers.cpp", "peers") if are_there else None
+    found = ways(namers, slabs, peers)
     jobs = {(way, threads): [*words, str(threads)] for way, words in found.items() for threads in THREADS}
     jobs |= {(way, threads): [namers, *words, str(threads)] for way, words in ALL_OVER.items() for threads in (2, 4)}
     jobs[REFUSED, 1] = [namers, "refused", "1"]
-    jobs |= {(f"{lanes} lane{'s' * (lanes > 1)}, {what}", 1): [namers, word, str(lanes), "1"]
-             for word, what in BY_LANES.items() for lanes in LANES}
+    jobs |= lanes_and_slots(namers)
     jobs |= {(walk.format(adds), 1): [namers, word, str(adds), "1"]
              for walk, word in ((PLAIN, "walk"), (GRANTED, "granted-walk")) for adds in ADDS.values()}
     spent = measured(bench, jobs)
@@ -106,7 +122,8 @@ def rows(bench):
         for network, adds in ADDS.items():
             ratio, times = compared(spent, (network + by, 1), (walk.format(adds), 1), "processor")
             yield measure.Row(f"{network}{by}, one thread, to {walk.format(adds)}", ratio, times)
-    for way in [way for way, threads in jobs if threads == 4 and way not in (*PEERS, *SLABS, VECTOR)]:
+    no_floor = (*PEERS, *SLABS, *IN_C, *POOLS)
+    for way in [way for way, threads in jobs if threads == 4 and way not in no_floor and " slots" not in way]:
         ratio, times = compared(spent, (way, 4), (TABLE, 4), "clock")
         yield measure.Row(f"{way}, four threads, to {TABLE}", ratio, f"{times} by the clock")
 

@@ -11,13 +11,17 @@
 //!
 //!     namers lanes|eighth|none LANES 1 ROUNDS
 //!
+//! Or what it takes to take a slot of so many and to give it back, while all others are free, or while they are out.
+//!
+//!     namers slots|last SLOTS THREADS ROUNDS
+//!
 //! By all but `all-over`, by which each thread lets its clients in by all entries, each has entries of its own.
 //! By `apart` the words of the floor lie apart.
 mod peers;
 mod timing;
 mod walks;
 
-use renamer::{Client, Error, Floor, Grant, Kind, Lane, Taker};
+use renamer::{Client, Error, Floor, Grant, Kind, Lane, Slot, Slots, Taker};
 use std::env;
 use std::hint::black_box;
 use std::process;
@@ -192,6 +196,17 @@ fn none_back(count: u64) -> Spent {
     spent
 }
 
+/// Takes a slot of so many, while some are out, and gives it back.
+fn take_slots(count: u64, out: u64, threads: u64) -> Spent {
+    let slots = Slots::open(count).expect("there is memory");
+    let _out: Vec<Slot> = (0..out).map(|_| slots.take().expect("a slot is free")).collect();
+    let (spent, taken) = in_threads((0..threads).collect(), |_: &mut u64| {
+        (0..CLIENTS / threads).filter(|_| black_box(slots.take()).is_ok()).count() as u64
+    });
+    assert_eq!(taken, CLIENTS / threads * threads);
+    spent
+}
+
 fn number<N: std::str::FromStr>(word: &str) -> N {
     word.parse().unwrap_or_else(|_| usage())
 }
@@ -201,7 +216,8 @@ fn usage() -> ! {
     eprintln!("        walk|granted-walk ADDS THREADS ROUNDS, or");
     eprintln!("        name|apart|many|all-over bitonic|periodic|tree WIDTH THREADS ROUNDS, or");
     eprintln!("        take|take-many bitonic|periodic|tree WIDTH THREADS ROUNDS, or");
-    eprintln!("        lanes|eighth|none LANES 1 ROUNDS");
+    eprintln!("        lanes|eighth|none LANES 1 ROUNDS, or");
+    eprintln!("        slots|last SLOTS THREADS ROUNDS");
     process::exit(2)
 }
 
@@ -242,6 +258,8 @@ fn main() {
         ["lanes", count, ..] => Box::new(move |_| come_and_go(number(count))),
         ["eighth", count, ..] => Box::new(move |_| every_eighth(number(count))),
         ["none", count, ..] => Box::new(move |_| none_back(number(count))),
+        ["slots", count, ..] => Box::new(move |threads| take_slots(number(count), 0, threads)),
+        ["last", count, ..] => Box::new(move |threads| take_slots(number(count), number::<u64>(count) - 1, threads)),
         _ => usage(),
     };
     let [.., threads, rounds] = words[..] else { usage() };
