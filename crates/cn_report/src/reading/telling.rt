@@ -6,7 +6,8 @@ ghost use Rattle.std.specs.Io.KnownBytes.{ReadConsumes};
 
 use std::io::{Read, Result};
 
-/// A reader that tells whether its last read failed, and how many bytes it gave.
+/// A reader that tells whether its last read failed, which no clause of `csv` says of its errors, and how many bytes it
+/// gave.
 pub(crate) trait ReadTelling: Read {
     ghost failed: { Self → Bool };
 
