@@ -39,6 +39,8 @@ class Case:
     spares: int | None = None
     # How large the stack of each of its threads may be, in kilobytes, if that is said.
     stack: int | None = None
+    # How much address space it may have, in kilobytes, if that is said.
+    space: int | None = None
     # Whether its first 1,000 reads and writes are interrupted.
     interrupted: bool = False
     by_script: bool = False
@@ -127,7 +129,7 @@ class Reader:
         case = self.case
         if mark == "words":
             case.words = [os.fsdecode(unescaped(word)) for word in rest.split()]
-        elif mark in ("status", "stack", *LIMITS, "spares"):
+        elif mark in ("status", "stack", "space", *LIMITS, "spares"):
             setattr(case, mark, int(rest))
         elif mark == "threads":
             count, _, refused = rest.partition(" ")

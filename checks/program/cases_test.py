@@ -8,7 +8,7 @@ from chosen import NoCase, chosen
 READ = [
     ("case a\nwords run --width 2\n", {"words": ["run", "--width", "2"]}),
     ("case a\n\n# no line\nstatus 3\nstack 5\n", {"status": 3, "stack": 5}),
-    ("case a\nthreads 7\nstack 128\n", {"threads": 7, "stack": 128}),
+    ("case a\nthreads 7\nstack 128\nspace 9\n", {"threads": 7, "stack": 128, "space": 9}),
     ("case a\nthreads 20 refused\n", {"threads": 20, "refused": True}),
     ("case a\ngrowths 5\nbytes 60\nwrites 7\nspares 2\n", {"growths": 5, "bytes": 60, "writes": 7, "spares": 2}),
     ("case a\nerror_writes 1\n", {"error_writes": 1}),

@@ -4,7 +4,7 @@ import re
 ANY = 1_000_000
 # The crates of the kit that any crate may use, and those that one may.
 KIT_OF_ALL = {"clap", "csv", "indexmap", "itoa", "thiserror"}
-KIT_OF = {"cn_floor": {"atomic_table"}, "renamer_c": {"counted_slot"}}
+KIT_OF = {"cn_floor": {"atomic_table"}, "cn_walk": {"core"}, "renamer_c": {"counted_slot"}}
 LIBRARIES = KIT_OF_ALL.union(*KIT_OF.values(), {"core", "std"})
 # Modules of std that a `use` may bring in: paths go on by their names.
 MODULES = {name: f"std::{name}" for name in ("env", "fmt", "io", "mem", "thread")}
@@ -45,9 +45,15 @@ MOST = {
         # Ghost data, and the receipts.
         "std::snapshot::Snapshot": ANY, "Snapshot": 27, "Snapshot::of": 9, "of_one": 2,
     },
-    "cn_walk": {"std::thread": ANY, "std::thread::join": 1, ".split": 1, "::open": 1, "::open_after": 1,
-                "::open_on": 1},
-    "cn_renamer": {"std::thread::join_mut": 1, "join_mut": 2, ".split": 1,
+    "cn_walk": {
+        # Threads with small stacks, and that each returns what its call does.
+        "std::thread": ANY, "std::thread::Promise": ANY, "std::thread::scope": 1, "std::thread::scope_env": 1,
+        "core::thread::Stack": ANY, "Stack": 2, "spawn_scoped_with": 1, "run_both": 3, "join_once": 3, "join_mut": 2,
+        "std::snapshot::Snapshot": ANY, "Snapshot": 3, "Snapshot::of": 1,
+        # Lanes that are split off, and floors that open.
+        ".split": 1, "::open": 1, "::open_after": 1, "::open_on": 1,
+    },
+    "cn_renamer": {"join_mut": 2, ".split": 1,
                    # A fault's line, which is made before it is written.
                    "std::io::Cursor": ANY},
     "cn_report": {".add": 2, "::open": 1, ".open_epoch": 2, "::swap": 1, ".resize": 1,

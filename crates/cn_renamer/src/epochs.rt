@@ -13,11 +13,11 @@ ghost use denote.Param.Send.{IsSync};
 use cn_cli::Options;
 use cn_floor::{Gate, OpenGate, Receipts};
 use cn_report::BatchEpoch;
-use cn_walk::{Crew, RunFault, Runner};
+use cn_walk::{Crew, RunFault, Runner, join_mut};
 use cn_wiring::Counting;
 use std::alloc::{AllocError, Global};
 use std::sync::Wait;
-use std::thread::{Threads, join_mut};
+use std::thread::Threads;
 
 /// How many clients of a worker pay for its thread: fewer are walked in less time than a thread takes to start.
 pub const CLIENTS_FOR_A_THREAD: usize = 8192;
@@ -126,14 +126,13 @@ fn cut(epochs: &[BatchEpoch], crew: Crew, clients: usize) -> (usize, usize)
     (at, before)
 }
 
-/// Runs epochs, each by one worker, and writes who has which name. If they carry nothing and several workers of the
-/// crew pay, two parts of the epochs run beside each other, each by a part of these workers, and so on in each; else
-/// they run one after another. If no thread can be had the parts are run so too. The receipts are of their floors.
+/// Runs epochs that carry nothing, each by one worker, and writes who has which name. If several workers of the crew
+/// pay, two parts of the epochs run beside each other, each by a part of these workers, and so on in each; else they
+/// run one after another. If no thread can be had the parts are run so too. The receipts are of their floors.
 fn run_beside<R: Threads + Wait + Sync>(
     rt: &R,
     alloc: Global,
     network: &Counting,
-    carries: bool,
     epochs: &[BatchEpoch],
     crew: Crew,
     holders: &mut [u64],
@@ -141,12 +140,12 @@ fn run_beside<R: Threads + Wait + Sync>(
     requires epochs { MayRunAll network.now.table.entries epochs.now (length holders.old) }
     requires crew { IsCrew crew }
     ensures { IfOk result (λ floors.
-        HaveWalked (of_one_worker crew) (new_runner carries network.now) epochs.now floors holders.new) }
+        HaveWalked (of_one_worker crew) (new_runner false network.now) epochs.now floors holders.new) }
 {
     let clients = holders.len();
     let workers = workers_that_pay(crew.workers, epochs.len(), clients);
-    if carries || workers < 2 {
-        let runner = Runner::new(alloc, network, carries)?;
+    if workers < 2 {
+        let runner = Runner::new(alloc, network, false)?;
         let one_worker = Crew { workers: 1, ..crew };
         return run_in_turn(rt, alloc, runner, epochs, one_worker, &OpenGate, holders);
     }
@@ -161,15 +160,49 @@ fn run_beside<R: Threads + Wait + Sync>(
             requires { IsSync R.row × IsCrew crew × MayRunAll network.now.table.entries first.now (length front.now) }
             ensures { IfOk result (λ floors. HaveWalked (of_one_worker crew) (new_runner false network.entry.now)
                 first.entry.now floors front.exit.now) }
-        { run_beside(rt, alloc, network, false, first, crew, front) },
+        { run_beside(rt, alloc, network, first, crew, front) },
         &mut ||
             requires { IsSync R.row × IsCrew others × MayRunAll network.now.table.entries second.now (length back.now) }
             ensures { IfOk result (λ floors. HaveWalked (of_one_worker others) (new_runner false network.entry.now)
                 second.entry.now floors back.exit.now) }
-        { run_beside(rt, alloc, network, false, second, others, back) },
+        { run_beside(rt, alloc, network, second, others, back) },
     );
     let (floors, others) = (one?, other?);
     Ok(floors.append(others))
+}
+
+/// Runs epochs, each by one worker, and writes who has which name: beside one another if they carry nothing and several
+/// workers of the crew pay. If several are refused memory, one worker runs all epochs once the threads have ended and
+/// what they held is let go. The receipts are of their floors.
+fn run_apart<R: Threads + Wait + Sync>(
+    rt: &R,
+    alloc: Global,
+    network: &Counting,
+    carries: bool,
+    epochs: &[BatchEpoch],
+    crew: Crew,
+    holders: &mut [u64],
+) -> Result<Receipts, AllocError>
+    requires epochs { MayRunAll network.now.table.entries epochs.now (length holders.old) }
+    requires crew { IsCrew crew }
+    ensures { IfOk result (λ floors.
+        HaveWalked (of_one_worker crew) (new_runner carries network.now) epochs.now floors holders.new) }
+{
+    if !carries && workers_that_pay(crew.workers, epochs.len(), holders.len()) > 1 {
+        if let Ok(receipts) = run_beside(rt, alloc, network, epochs, crew, holders) {
+            return Ok(receipts);
+        }
+    }
+    let runner = Runner::new(alloc, network, carries)?;
+    run_in_turn(
+        rt,
+        alloc,
+        runner,
+        epochs,
+        Crew { workers: 1, ..crew },
+        &OpenGate,
+        holders,
+    )
 }
 
 /// Runs the epochs of a batch on a network, as the options say: who has which name, epoch after epoch, each by rising
@@ -201,7 +234,7 @@ pub(crate) fn run_epochs<G: Gate + Sync, R: Threads + Wait + Sync>(
             let runner = Runner::new(alloc, network, carries)?;
             run_in_turn(rt, alloc, runner, epochs, crew, gate, &mut holders)?
         }
-        None => run_beside(rt, alloc, network, carries, epochs, crew, &mut holders)?,
+        None => run_apart(rt, alloc, network, carries, epochs, crew, &mut holders)?,
     };
     Ok((holders, receipts))
 }

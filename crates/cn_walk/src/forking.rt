@@ -7,12 +7,12 @@ ghost use Rattle.cn_walk.specs.Walks.{GrantsInOrder, IsSole, WalksAll};
 ghost use denote.Param.Send.{IsSync};
 
 use crate::crew::Crew;
+use crate::joining::join_once;
 use crate::walking::walk_all;
 use cn_floor::{Floor, Gate, Lane, SharedFloor};
 use cn_ledger::Client;
 use std::alloc::Global;
 use std::sync::Wait;
-use std::thread;
 use std::thread::Threads;
 
 /// The lanes of workers whose numbers follow one another.
@@ -118,7 +118,7 @@ pub(crate) fn walk_lanes<F: SharedFloor + Sync, G: Gate + Sync, R: Threads + Wai
             let left = Box::into_inner(left);
             let right = Box::into_inner(right);
             let (first, second) = clients.split_at(at as usize);
-            let (lane, other) = thread::join(
+            let (lane, other) = join_once(
                 rt,
                 move || -> Lane
                     requires { IsSync R.row × IsSync F.row × IsSync G.row

@@ -4,6 +4,7 @@
 mod callers;
 mod crew;
 mod forking;
+mod joining;
 mod runner;
 mod running;
 mod walking;
@@ -15,6 +16,7 @@ pub use cn_floor::{
     SplitFault, Sweep, Words,
 };
 pub use crew::Crew;
+pub use joining::join_mut;
 pub use runner::Runner;
 pub use running::RunFault;
 pub use walking::walk_all;

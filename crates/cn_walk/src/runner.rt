@@ -67,7 +67,8 @@ impl<'a> Runner<'a> {
     /// next epoch, and the closed floor. Of k clients, worker j of n has those at the positions from `j * k / n` up to,
     /// not including, `(j + 1) * k / n`, both rounded down; one that has none gets no lane and no thread. All lanes are
     /// made, and their memory is reserved, before the first worker starts. One worker starts no thread, and a fork that
-    /// gets no thread has its parts walk one after the other. It returns only if the gate lets each worker on.
+    /// gets no thread has its parts walk one after the other. It returns only if the gate lets each worker on. If
+    /// several workers are refused memory, what they hold is let go, and the first of them runs the epoch again.
     ///
     /// # Errors
     /// The first that stands: `Workers`, `Hand`, `TooMany`, `NoSuchEntry`, `Memory`. Then the words are as they were,
@@ -96,7 +97,14 @@ impl<'a> Runner<'a> {
             return (self, Err(fault));
         }
         let Runner { leftovers, carries } = self;
-        match walk_after(rt, alloc, leftovers, clients, crew, gate) {
+        let ended = match walk_after(rt, alloc, leftovers, clients, crew, gate) {
+            Err(leftovers) if crew.workers > 1 => {
+                let one = Crew { workers: 1, ..crew };
+                walk_after(rt, alloc, leftovers, clients, one, gate)
+            }
+            ended => ended,
+        };
+        match ended {
             Ok((closed, leftovers)) => { (runner_after(&closed, leftovers, carries), Ok(closed)) }
             Err(leftovers) => (Runner { leftovers, carries }, Err(RunFault::Memory)),
         }

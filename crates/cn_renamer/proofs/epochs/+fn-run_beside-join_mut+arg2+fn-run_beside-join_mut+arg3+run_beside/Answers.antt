@@ -44,4 +44,4 @@ returns g t c =
     let hands = c.split.ensures.hand in
     let left = hands.0 in
     let right = hands.1 in
-    rw c.if-carries.false (search (rules, beside))
+    search (rules, beside)

@@ -6,7 +6,7 @@ use Rattle.cn_walk.specs.Parts.{AreReady, IsOne, IsReady, together, whole}
 use Rattle.cn_floor.specs.Lane.{FloorValue, LaneValue}
 use Rattle.cn_walk.specs.Walks.{WalksAll}
 use Rattle.cn_walk.proofs.Parts.{both-walked, whole-ready}
-use Rattle.cn_walk.proofs.forking.+fn-walk_lanes-join+arg2+fn-walk_lanes-join+arg3+walk_lanes.Goals as goal
+use Rattle.cn_walk.proofs.forking.+fn-walk_lanes-join_once+arg2+fn-walk_lanes-join_once+arg3+walk_lanes.Goals as goal
 
 pub returns-in-Ok-clause-walked : goal.returns-in-Ok-clause-walked
 returns-in-Ok-clause-walked g t c =
@@ -23,13 +23,15 @@ returns-in-Ok-clause-walked g t c =
     let other = subst (λ (x : Lanes). IsReady home (n - at) hand (whole x)) (sym right)
     (whole-ready home (n - at) hand c.in-Fork.right.value ready.3) in
     let cut = c.split_at.ensures.by_index.0 in
-    let done = both-walked a b c.join-lane.result.0 c.join-lane.result.1 _ _ other.nothing c.join-lane.ensures.first
-    c.join-lane.ensures.second in
-    let joined : c.in-Ok.lane ≡ together c.join-lane.result.0 c.join-lane.result.1 =
-    subst (λ r. IfOk r (λ (l : LaneValue). l ≡ together c.join-lane.result.0 c.join-lane.result.1)) c.in-Ok.is c.join.ensures.ok in
+    let one : LaneValue = c.join_once-lane.result.0 in
+    let two : LaneValue = c.join_once-lane.result.1 in
+    let done = both-walked a b one two _ _ other.nothing c.join_once-lane.ensures.first
+    c.join_once-lane.ensures.second in
+    let joined : c.in-Ok.lane ≡ together one two =
+    subst (λ r. IfOk r (λ (l : LaneValue). l ≡ together one two)) c.in-Ok.is c.join.ensures.ok in
     subst (λ (l : LaneValue). WalksAll l c.in-Ok.lane c.args.clients.now) (sym lanes)
     (subst (λ (l : LaneValue). WalksAll (together a b) l c.args.clients.now) (sym joined)
-    (subst (λ (xs : List Client). WalksAll (together a b) (together c.join-lane.result.0 c.join-lane.result.1) xs) (sym cut) done))
+    (subst (λ (xs : List Client). WalksAll (together a b) (together one two) xs) (sym cut) done))
 
 pub returns-in-Ok-clause-in_order : goal.returns-in-Ok-clause-in_order
 returns-in-Ok-clause-in_order g t c one single sole = absurd (subst IsOne c.in-Fork.is single)
