@@ -82,7 +82,7 @@ MOST = {
         # Two grants of a slice of a lane's own.
         ".swap": 1,
         # Who goes there, and who owns a floor or a row.
-        "std::sync::Arc": ANY, "Arc": 26, "FloorShare": 14, "::try_clone": 4, ".share": 1, ".another_owner": 1,
+        "std::sync::Arc": ANY, "Arc": 24, "FloorShare": 14, "::try_clone": 4, ".share": 1, ".another_owner": 1,
         ".shared": 2, "with_places": 15, ".hand_back": 4, ".take_back": 3,
         # Lanes and takers that are split off, and floors that open.
         ".split": 2, ".split_off": 1, "::open": 2, "::open_after": 2, "::open_words": 2, "::open_for_takers": 2,

@@ -7,7 +7,7 @@ use Rattle.renamer_c.specs.Placing.{IsPut, IsUnturned}
 use Rattle.renamer_c.specs.Refusals.{WithLane}
 use Rattle.renamer_c.specs.Returns.{IsBack, JoinsTimes}
 use Rattle.renamer_c.specs.declared.floor_with_places.Handed.{Handed}
-use Rattle.renamer_c.specs.declared.floor_with_places.Handed.TheVariants.{AtPlace, NotItsOwn, WithFloor}
+use Rattle.renamer_c.specs.declared.floor_with_places.Handed.TheVariants.{AtPlace, NotItsOwn}
 use Rattle.renamer_c.specs.declared.held_lane.returning.JoinStop.{JoinStop}
 use Rattle.renamer_c.specs.declared.held_lane.returning.JoinStop.TheVariants.{Nothing, NothingBack, Memory}
 use Rattle.renamer_c.specs.declared.held_lane.returning.TakeStop.{TakeStop}
@@ -17,11 +17,9 @@ use Rattle.renamer_c.specs.declared.refusal.Refusal.TheVariants as why
 use Rattle.renamer_c.specs.declared.searches.Search.{Search}
 use Rattle.renamer_c.specs.declared.searches.TheConstants.{MOST_JOINS}
 
--- where a lane ends that is handed back: it is at its place; or its floor, of which it was the only lane, is here; or
--- it is here, in its box, since its place was not its own
+-- where a lane ends that is handed back: it is at its place; or it is here, in its box, since its place was not its own
 abbrev pub EndsSomewhere : LaneValue → Handed → Type 0
 EndsSomewhere lane (AtPlace p ended) = IsPut lane p
-EndsSomewhere lane (WithFloor floor) = floor ≡ lane.home
 EndsSomewhere lane (NotItsOwn u here) = IsUnturned 2 u × (back_held here.value ≡ Some lane)
 
 -- what a join leaves that stops: if no lane was back, what was seen; and where one is that was back, for whose grants

@@ -53,8 +53,6 @@ impl Model for FloorWithPlaces {
 pub(crate) enum Handed {
     /// To its place, and its hand-back was counted then.
     AtPlace(Put, Ended),
-    /// Nowhere, since its floor has no other lane, and goes too.
-    WithFloor(FloorWithPlaces),
     /// Here, since its place was not its own, which no call makes it.
     NotItsOwn(Unturned, Box<Kept>),
 }

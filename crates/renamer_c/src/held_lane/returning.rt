@@ -16,7 +16,6 @@ use crate::refusal::Refusal;
 use crate::searches::{MOST_JOINS, NoneBack, Search};
 use crate::shares::{Full, another_share};
 use crate::taken::{LetGo, Taken};
-use std::sync::Arc;
 
 /// Why a lane takes in no other.
 #[derive(Drop)]
@@ -70,8 +69,8 @@ impl TakeStop {
 }
 
 impl HeldLane {
-    /// Hands the lane back to its floor, in the box of its handle: nothing is freed. If no other lane is there, box and
-    /// floor are let go.
+    /// Hands the lane back to its floor, in the box of its handle: nothing is freed. If no other lane is out, the floor
+    /// is let go, with all lanes that are back.
     ///
     /// # Errors
     /// `StillWalking`, with the lane as it was.
@@ -92,14 +91,7 @@ impl HeldLane {
             most: _most,
             place,
         } = self;
-        match Arc::try_unwrap(floor) {
-            Ok(Some(floor)) => {
-                place.go_with_floor();
-                Ok(Handed::WithFloor(floor))
-            }
-            Ok(None) => unreachable!(),
-            Err(floor) => Ok(with_places(&floor).hand_back(place, lane, keep(boxed))),
-        }
+        Ok(with_places(&floor).hand_back(place, lane, keep(boxed)))
     }
 
     /// Takes in this lane of the floor, which was handed back.
