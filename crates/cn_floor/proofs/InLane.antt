@@ -7,6 +7,3 @@ pub mod Alone
 pub mod Counted
 pub mod Depths
 pub mod Named
-pub mod Listed
-pub mod InTurn
-pub mod Taken

@@ -29,6 +29,3 @@ pub mod GoesOn
 pub mod Alone
 pub mod Together
 pub mod Named
-pub mod Listed
-pub mod Taking
-pub mod InsideTaker

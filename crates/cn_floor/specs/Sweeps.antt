@@ -3,10 +3,10 @@ use Rattle.std.specs.Prelude.{◌≡◌, ℕ, ◌+◌, ◌-◌, ◌%◌, ◌<◌
 use Rattle.cn_spec.specs.Step.{name_of}
 use Rattle.cn_wiring.specs.declared.end.End.{End}
 use Rattle.cn_wiring.specs.declared.end.End.TheVariants.{Balancer, Exit}
-use Rattle.cn_wiring.specs.Table.{Table, end_of, output_wire}
+use Rattle.cn_wiring.specs.Table.{IsWellFormed, Stands, Table, end_of, output_wire}
 use Rattle.cn_ledger.specs.Ledger.{Ledger}
 use Rattle.cn_yard.specs.Deals.{IsCleared, IsDealt}
-use Rattle.cn_yard.specs.Lists.{Yard, on}
+use Rattle.cn_yard.specs.Lists.{Yard, on, times_in}
 use Rattle.cn_floor.specs.declared.view.Grant.{Grant}
 use Rattle.cn_floor.specs.declared.view.Start.{Start}
 use Rattle.cn_floor.specs.declared.view.Sweep.{Sweep}
@@ -95,3 +95,18 @@ pub record SweepsOn (old new : LaneValue) (wire n : ℕ) (answer : Sweep) : Type
   pub room : new.room ≡ old.room
   pub answered : answer ≡ sweep_at (end_of old.home.start.network.table wire) n (length (on old.yard.lists wire))
   pub by : AreLetBy old.home.start old.view new.view wire (end_of old.home.start.network.table wire) n
+
+-- all tokens of a wire, of which there are some, go by an end together, and the first gets the number n; nobody stands
+-- on a greater wire
+pub record GoTogether (start : Start) (wire : ℕ) (end : End) (n : ℕ) (v w : View) : Type 0 where
+  pub formed : IsWellFormed start.network.table
+  pub low : wire < length start.network.table.ends
+  pub ends : end_of start.network.table wire ≡ end
+  pub stands : Stands start.network.table end
+  pub once : (token : ℕ) → times_in v.tokens token ≤ 1
+  pub wires : length v.tokens ≡ length start.network.table.ends
+  pub of : v.start ≡ start
+  pub some : 0 < length (on v.tokens wire)
+  pub above : (u : ℕ) → wire < u → on v.tokens u ≡ []
+  pub went : w ≡ after_sweep wire end n v
+  pub by : AreLetBy start v w wire end n

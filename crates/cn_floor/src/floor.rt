@@ -1,17 +1,16 @@
 //! A floor: a counting network on atomic words, which lanes share.
 
+mod by_seat;
 mod closed_floor;
 mod closing;
 mod counters;
 mod lane;
 mod laws;
 mod leftovers;
-mod listed;
 mod looking;
 mod naming;
 mod network_ref;
 mod opening;
-mod passing;
 mod plays;
 mod quiet;
 mod reading;
@@ -20,9 +19,6 @@ mod shared_floor;
 mod sharing;
 mod stepping;
 mod sweeping;
-mod taker;
-mod taker_floor;
-mod taking;
 mod words;
 
 ghost use Rattle.std.specs.Prelude.{◌≡◌};
@@ -32,7 +28,7 @@ pub use closed_floor::ClosedFloor;
 pub use closing::CloseFault;
 use cn_wiring::Counting;
 use counters::Counters;
-pub use lane::Lane;
+pub use lane::{Lane, make_way};
 pub use leftovers::Leftovers;
 pub use naming::walk_one;
 use opening::{yard_for, zeros};
@@ -41,16 +37,15 @@ pub use receipts::Receipts;
 pub use shared_floor::SharedFloor;
 use std::alloc::Global;
 use std::marker::Model;
-pub use taker::Taker;
 pub use words::Words;
 
 /// A counting network on atomic words, which lanes share: one word for each entry, each balancer and each exit. A
 /// client comes in, passes a balancer and leaves by one atomic add each, without a lock.
 ///
 /// A lane belongs to the floor that made it, and each call has the condition that its lanes are its own. Only
-/// [`Floor::open`] and its like, [`Floor::close`], [`Floor::close_for`], a [`Floor::join`], a [`Floor::name`] or a
-/// [`Floor::name_all`] without room, and a [`Floor::enter`] without room or a free record take memory. Lanes can be
-/// sent to threads, and a floor can be shared by them.
+/// [`Floor::open`] and its like, [`Floor::close`], [`Floor::close_for`], a [`Floor::join`], a [`Floor::name`] without
+/// room, and a [`Floor::enter`] without room or a free record take memory. Lanes can be sent to threads, and a floor
+/// can be shared by them.
 pub struct Floor<'a> {
     alloc: Global,
     /// How many clients came before it began.

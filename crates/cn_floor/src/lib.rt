@@ -7,9 +7,10 @@ mod gate;
 pub mod laws;
 mod view;
 
+pub use atomic_table::Seat;
 pub use fault::{JoinFault, LaneFault, OpenFault, SplitFault};
 pub use floor::{
-    CloseFault, ClosedFloor, Floor, Lane, Leftovers, Quiet, Receipts, SharedFloor, Taker, Words,
+    CloseFault, ClosedFloor, Floor, Lane, Leftovers, Quiet, Receipts, SharedFloor, Words, make_way,
     walk_one,
 };
 pub use gate::{Gate, Moment, OpenGate};

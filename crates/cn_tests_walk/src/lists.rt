@@ -21,7 +21,7 @@ fn name_all(
     ensures { lane.new.home ≡ lane.old.home }
 {
     if lane.inside() == 0 {
-        Some(floor.name_all(lane, clients, entry))
+        Some(cn_lists::name_all(floor, lane, clients, entry))
     } else {
         None
     }

@@ -2,7 +2,8 @@
 
 ghost use Rattle.std.specs.Prelude.{◌≡◌};
 
-use cn_floor::{Floor, LaneFault, SplitFault, Taker, Words};
+use cn_floor::{Floor, LaneFault, SplitFault, Words};
+use cn_lists::{Taker, open_for_takers, split_off_taker, take, take_many, takes_begun};
 use cn_tree::tree;
 use std::alloc::Global;
 
@@ -23,9 +24,9 @@ fn take_six(floor: &Floor<'_>, taker: &mut Taker) -> Option<((u64, u64), [u64; 4
     requires { taker.old.home ≡ floor.now }
     ensures { taker.new.home ≡ taker.old.home }
 {
-    let two = (floor.take(taker, 0).ok()?, floor.take(taker, 0).ok()?);
+    let two = (take(floor, taker, 0).ok()?, take(floor, taker, 0).ok()?);
     let mut list = [0; 4];
-    let Ok(()) = floor.take_many(taker, 0, &mut list) else {
+    let Ok(()) = take_many(floor, taker, 0, &mut list) else {
         return None;
     };
     list.sort_unstable();
@@ -37,8 +38,8 @@ fn refused(floor: &Floor<'_>, taker: &mut Taker) -> [Option<LaneFault>; 2]
     requires { taker.old.home ≡ floor.now }
     ensures { taker.new.home ≡ taker.old.home }
 {
-    let entry = floor.take(taker, 1).err();
-    let quota = floor.take(taker, 0).err();
+    let entry = take(floor, taker, 1).err();
+    let quota = take(floor, taker, 0).err();
     [entry, quota]
 }
 
@@ -47,13 +48,13 @@ fn take_seven(floor: &Floor<'_>, mut taker: Taker) -> Option<Took>
     requires { taker.home ≡ floor.now }
 {
     let (two, list) = take_six(floor, &mut taker)?;
-    let Ok(mut other) = floor.split_off_taker(&mut taker, 1) else {
+    let Ok(mut other) = split_off_taker(floor, &mut taker, 1) else {
         return None;
     };
-    let one = floor.take(&mut other, 0).ok();
+    let one = take(floor, &mut other, 0).ok();
     let refused = refused(floor, &mut taker);
-    let too_small = floor.split_off_taker(&mut taker, 1).err();
-    let begun = floor.takes_begun(&mut taker);
+    let too_small = split_off_taker(floor, &mut taker, 1).err();
+    let begun = takes_begun(floor, &mut taker);
     Some(Took {
         two,
         list,
@@ -68,7 +69,7 @@ fn take_seven(floor: &Floor<'_>, mut taker: Taker) -> Option<Took>
 fn taken(alloc: Global) -> Option<Took> {
     let network = tree(alloc, 4).ok()?;
     let words = Words::zero(alloc, &network).ok()?;
-    let (floor, taker) = Floor::open_for_takers(alloc, words, 7).ok()?;
+    let (floor, taker) = open_for_takers(alloc, words, 7).ok()?;
     take_seven(&floor, taker)
 }
 

@@ -9,7 +9,7 @@ use Rattle.renamer_c.specs.declared.client.Client as c
 use Rattle.cn_yard.specs.Lists.{Yard, tokens_in}
 use Rattle.cn_floor.specs.declared.view.Grant.{Grant}
 use Rattle.cn_floor.specs.Lane.{LaneValue, with_rooms}
-use Rattle.cn_floor.specs.Listed.{AreNamed}
+use Rattle.cn_lists.specs.Listed.{AreNamed}
 use Rattle.cn_walk.specs.Walks.{WalksAll}
 use Rattle.renamer_c.specs.Many.{AreAllNamed, by_entry, client_from}
 

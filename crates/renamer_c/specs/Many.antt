@@ -5,7 +5,7 @@ use Rattle.cn_spec.specs.Sums.{times}
 use Rattle.cn_ledger.specs.declared.client.Client as ledger
 use Rattle.cn_floor.specs.declared.view.Grant as floor
 use Rattle.cn_floor.specs.Lane.{LaneValue}
-use Rattle.cn_floor.specs.Listed.{AreNamed}
+use Rattle.cn_lists.specs.Listed.{AreNamed}
 use Rattle.cn_floor.specs.Named.{IsNamed}
 use Rattle.cn_floor.specs.Steps.{StoodInState}
 use Rattle.cn_walk.specs.Walks.{WalksAll}

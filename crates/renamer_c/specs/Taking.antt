@@ -3,7 +3,7 @@ use Rattle.std.specs.Prelude.{◌≡◌, ℕ, ◌*◌, ◌/◌, ◌<◌, ◌≤�
 use Rattle.cn_wiring.specs.declared.kind.Kind.{Kind}
 use Rattle.cn_nets.specs.Net.{IsNetworkOf}
 use Rattle.cn_floor.specs.Steps.{IsAnswer, StoodInState}
-use Rattle.cn_floor.specs.Taking.{AreTaken, IsTaken, TakerValue, empty_taker}
+use Rattle.cn_lists.specs.Taking.{AreTaken, IsTaken, TakerValue, empty_taker}
 use Rattle.cn_floor.specs.Views.{after_entered, after_look, after_split, base, split_off}
 use Rattle.cn_floor.specs.Words.{word_count}
 use Rattle.cn_spec.specs.declared.limits.TheConstants.{MOST_TAKEN}

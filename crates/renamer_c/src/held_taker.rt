@@ -5,12 +5,13 @@ ghost use Rattle.std.specs.Prelude.{◌≡◌, ◌≤◌, length, Some, IfErr, I
 ghost use Rattle.cn_spec.specs.declared.limits.TheConstants.{MOST_TAKEN};
 ghost use Rattle.cn_floor.specs.Carried.{client_count};
 ghost use Rattle.cn_floor.specs.Steps.{IsAnswer, StoodInState};
-ghost use Rattle.cn_floor.specs.Taking.{AreTaken, IsTaken, empty_taker};
+ghost use Rattle.cn_lists.specs.Taking.{AreTaken, IsTaken, empty_taker};
 ghost use Rattle.cn_floor.specs.Views.{after_entered, base};
 ghost use Rattle.renamer_c.specs.Taking.{IsFirst, IsSplitOff, LieBy, NotTaken, share_of};
 
 use crate::refusal::Refusal;
-use cn_floor::{Floor, LaneFault, Taker, Words};
+use cn_floor::{Floor, LaneFault, Words};
+use cn_lists::{Taker, open_for_takers, split_off_taker, take, take_many, takes_begun};
 use cn_spec::limits::MOST_TAKEN;
 use cn_wiring::Counting;
 use std::alloc::Global;
@@ -35,7 +36,7 @@ pub struct HeldTaker {
 }
 
 impl Model for HeldTaker {
-    ghost use Rattle.cn_floor.specs.Taking.{TakerValue};
+    ghost use Rattle.cn_lists.specs.Taking.{TakerValue};
     ghost use Rattle.renamer_c.specs.InsideHeldTaker.{IsHeldTaker};
 
     ghost Value = { TakerValue };
@@ -61,9 +62,9 @@ fn lay(
     ensures spaced { IfOk result (λ r. LieBy apart r.1) }
 {
     if apart == 0 {
-        Floor::open_for_takers(alloc, words, MOST_TAKEN)
+        open_for_takers(alloc, words, MOST_TAKEN)
     } else {
-        Floor::open_for_takers(alloc, words.apart(), MOST_TAKEN)
+        open_for_takers(alloc, words.apart(), MOST_TAKEN)
     }
 }
 
@@ -117,7 +118,7 @@ impl HeldTaker {
         let Ok(floor) = Arc::try_clone(&self.floor) else {
             return Err(Refusal::Memory);
         };
-        match floor.split_off_taker(&mut self.taker, quota) {
+        match split_off_taker(&floor, &mut self.taker, quota) {
             Ok(taker) => Ok(HeldTaker { floor, taker }),
             Err(_) => unreachable!(),
         }
@@ -132,7 +133,7 @@ impl HeldTaker {
         ensures err { OnErr result (self.new ≡ self.old) }
         ensures refused { IfErr result (NotTaken (Some self.old) entry 1) }
     {
-        match self.floor.take(&mut self.taker, entry) {
+        match take(&self.floor, &mut self.taker, entry) {
             Ok(name) => Ok(name),
             Err(LaneFault::NoSuchEntry) => Err(Refusal::NoSuchEntry),
             Err(LaneFault::QuotaSpent) => Err(Refusal::QuotaSpent),
@@ -149,7 +150,7 @@ impl HeldTaker {
         ensures err { OnErr result ((self.new ≡ self.old) × (names.new ≡ names.old)) }
         ensures refused { IfErr result (NotTaken (Some self.old) entry (length names.old)) }
     {
-        match self.floor.take_many(&mut self.taker, entry, names) {
+        match take_many(&self.floor, &mut self.taker, entry, names) {
             Ok(()) => Ok(()),
             Err(LaneFault::NoSuchEntry) => Err(Refusal::NoSuchEntry),
             Err(LaneFault::QuotaSpent) => Err(Refusal::QuotaSpent),
@@ -164,6 +165,6 @@ impl HeldTaker {
             ≡ record self.old { view = after_entered self.old.home.start result self.old.view } }
         ensures in_state { StoodInState self.old.home.start self.new.view }
     {
-        self.floor.takes_begun(&mut self.taker)
+        takes_begun(&self.floor, &mut self.taker)
     }
 }

@@ -176,3 +176,7 @@ module _ (start : Start) (client entry exit visit : ℕ) (v w : View) (began : I
         low = name-low;
         in_state = stood;
       }
+
+-- a later visit has a greater name
+pub name-rises : (width i m n : ℕ) → m ≤ n → name_of width i m ≤ name_of width i n
+name-rises width i m n less = omega (arith, mul-le-mul_left width less)

@@ -215,7 +215,7 @@ impl<'a> Floor<'a> {
 
     /// A floor that goes on from these words, and the one seat of its table, which has the whole quota. If it gets no
     /// memory the words come back.
-    pub(super) fn lay(
+    pub fn lay(
         alloc: Global,
         words: Words<'a>,
         quota: u64,

@@ -60,7 +60,7 @@ impl<'a> Floor<'a> {
     }
 
     /// Splits a seat off another, for a lane with this quota. Each of both then looks once.
-    pub(super) fn split_seat(&self, seat: &mut Seat<(), View>, quota: u64) -> Seat<(), View>
+    pub fn split_seat(&self, seat: &mut Seat<(), View>, quota: u64) -> Seat<(), View>
         requires own { (seat.old.table_id ≡ self.now.table)
             × (seat.old.me.0.start ≡ self.now.start) }
         requires slots { (seat.old.me.1 ≡ []) × (seat.old.me.0.loads ≡ []) }

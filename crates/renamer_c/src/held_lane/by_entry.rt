@@ -64,7 +64,7 @@ pub(super) fn name_run(floor: &Floor<'static>, lane: &mut Lane, ids: &[u64], ent
             unreachable!()
         };
     } else {
-        let Ok(()) = floor.name_all(lane, ids, entry) else {
+        let Ok(()) = cn_lists::name_all(floor, lane, ids, entry) else {
             unreachable!()
         };
     }

@@ -1,5 +1,0 @@
-use Rattle.std.proofs.Common.{◌-◌, length}
-use Rattle.cn_floor.proofs.floor.Floor.+pass_all.Given as goal
-
-abbrev pub decreases-pass_all : goal.decreases-pass_all
-decreases-pass_all g l = length l.self.now.start.network.table.ends - l.wire

@@ -1,8 +1,0 @@
-use Rattle.std.proofs.Common.{arith}
-use Rattle.cn_floor.proofs.InLane.Taken.{written-more}
-use Rattle.cn_floor.proofs.floor.taking.AnyonePartyNames.leave.Goals as goal
-
-pub returns-clause-noted : goal.returns-clause-noted
-returns-clause-noted c tokens before now many _ noted =
-    written-more _ c.args.width c.args.base c.args.exit c.args.first tokens noted (omega (arith, many)) c.loop-place.invariant.kept
-    (λ k low. c.loop-place.invariant.each k (omega (arith, low, many, c.loop-place-test.false)))

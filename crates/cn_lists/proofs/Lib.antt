@@ -1,0 +1,9 @@
+mod Common
+mod Groups
+mod CameIn
+mod Dealt
+mod Left
+mod Together
+mod InTurn
+mod Taken
+mod Counted

@@ -1,0 +1,106 @@
+-- Clients of a list who come in by one entry and pass the ends of wires together.
+use Rattle.std.specs.Prelude.{◌≡◌, ◌≢◌, ℕ, zero, suc, ◌+◌, ◌-◌, ◌*◌, ◌<◌, ◌≤◌, ◌^◌, ◌++◌, ◌==◌, [], ◌∷◌, List, count_by, length, map, replicate, slice_index, take, vec_capacity}
+use Rattle.cn_spec.specs.Sums.{times}
+use Rattle.cn_ledger.specs.declared.client.Client.{Client}
+use Rattle.cn_yard.specs.Lists.{on}
+use Rattle.cn_lists.specs.declared.listed.Granting.{Granting}
+use Rattle.cn_lists.specs.declared.listed.Places.{Places}
+use Rattle.cn_floor.specs.declared.view.Grant.{Grant}
+use Rattle.cn_floor.specs.declared.view.Start.{Start}
+use Rattle.cn_floor.specs.declared.view.View.{View}
+use Rattle.cn_floor.specs.Lane.{LaneValue}
+use Rattle.cn_floor.specs.EntersAll.{EnterInTurn, after_enter_all}
+use Rattle.cn_floor.specs.Steps.{IsAtomicStep, StoodInState}
+use Rattle.cn_floor.specs.Sweeps.{SweptBy}
+
+-- of a list's clients those at the places first, first + stride and so on, so many; each is a token with the number of
+-- its place
+unfoldable pub placed : List ℕ → ℕ → ℕ → ℕ → List (ℕ × ℕ)
+placed clients first stride zero = []
+placed clients first stride (suc n) = (first, slice_index clients first) ∷ placed clients (first + stride) stride n
+
+-- what stays the same of a lane's grants and a list of clients who get more
+pub record ListFrame : Type 0 where
+  pub name : ℕ
+  pub capacity : ℕ
+  pub clients : List ℕ
+
+abbrev pub frame_of : Granting → ListFrame
+frame_of notes = record {
+  name = notes.grants.ghost_name;
+  capacity = vec_capacity notes.grants.now;
+  clients = notes.clients.now;
+}
+
+-- these tokens are so many of the list's clients, from a place on
+pub record Stand (frame : ListFrame) (p : Places) (count : ℕ) (tokens : List (ℕ × ℕ)) : Type 0 where
+  pub are : tokens ≡ placed frame.clients p.first p.stride count
+  pub within : 0 < count → p.first + p.stride * (count - 1) < length frame.clients
+  pub few : length frame.clients < 2 ^ 63
+
+-- grants for these tokens: as many, and to each client as often as it has tokens
+pub record AreTheirs (tokens : List (ℕ × ℕ)) (grants : List Grant) : Type 0 where
+  pub as_many : length grants ≡ length tokens
+  pub as_often : (client : ℕ) → count_by (λ g. g.client == client) grants ≡ count_by (λ e. e.1 == client) tokens
+
+-- the clients of a list, who all come by one entry
+abbrev pub by_one_entry : ℕ → List ℕ → List Client
+by_one_entry entry clients = map (λ id. record { id = id; entry = entry }) clients
+
+-- what the first k clients of a list, who came in by an entry, made of a view with nobody inside
+pub record CameIn (v w : View) (clients : List ℕ) (entry k : ℕ) : Type 0 where
+  pub start : w.start ≡ v.start
+  pub quota : w.quota + k ≡ v.quota
+  pub entries : w.entries ≡ v.entries ++ replicate (k) entry
+  pub came : w.came ≡ v.came ++ by_one_entry entry (take k clients)
+  pub seen : w.seen ≡ v.seen
+  pub loads : w.loads ≡ v.loads
+  pub grants : w.grants ≡ v.grants
+  pub wires : length w.tokens ≡ length v.tokens
+  pub there : on w.tokens entry ≡ placed clients 0 1 (k)
+  pub others : (u : ℕ) → u ≢ entry → on w.tokens u ≡ []
+
+-- what these tokens, which stood on a wire, made of a view until all of them had left
+pub record HaveLeft (v w : View) (wire : ℕ) (tokens : List (ℕ × ℕ)) : Type 0 where
+  pub start : w.start ≡ v.start
+  pub quota : w.quota ≡ v.quota
+  pub entries : w.entries ≡ v.entries
+  pub came : w.came ≡ v.came
+  pub seen : w.seen ≡ v.seen
+  pub loads : w.loads ≡ v.loads
+  pub wires : length w.tokens ≡ length v.tokens
+  pub empty : on w.tokens wire ≡ []
+  pub others : (u : ℕ) → u ≢ wire → on w.tokens u ≡ on v.tokens u
+  pub grants : (more : List Grant) × (w.grants ≡ v.grants ++ more) × AreTheirs tokens more
+  pub in_state : 0 < length tokens → StoodInState v.start w
+  pub nobody : length tokens ≡ 0 → w ≡ v
+
+-- the clients of a list come in by an entry, in one step, and leave by sweeps of these wires
+pub record WalkTogether (start : Start) (clients : List ℕ) (entry : ℕ) (v w : View) : Type 0 where
+  -- it is as many events in turn as clients
+  pub came : IsAtomicStep start v (after_enter_all clients entry v)
+      (EnterInTurn start.network.table clients entry 0 (length clients))
+  pub wires : List ℕ
+  pub swept : SweptBy start wires (after_enter_all clients entry v) w
+  pub steps : w.steps ≡ v.steps + 1 + length wires
+
+-- the clients of a list came in by an entry and left: a grant more for each of them, and the wires are as before
+pub record AreNamed (old new : LaneValue) (clients : List ℕ) (entry : ℕ) : Type 0 where
+  pub home : new.home ≡ old.home
+  pub walked : WalkTogether old.home.start clients entry old.view new.view
+  pub quota : new.view.quota + length clients ≡ old.view.quota
+  pub entries : new.view.entries ≡ old.view.entries ++ replicate (length clients) entry
+  pub came : new.view.came ≡ old.view.came ++ by_one_entry entry clients
+  pub seen : new.view.seen ≡ old.view.seen
+  pub grants : (more : List Grant) × (new.view.grants ≡ old.view.grants ++ more) × (length more ≡ length clients)
+      × ((client : ℕ) → count_by (λ g. g.client == client) more ≡ times client clients)
+  -- by as many atomic steps as one client takes, at least
+  pub enough_steps : 0 < length clients
+      → old.view.steps + (old.home.start.network.depth + 2) ≤ new.view.steps
+  -- and at most by one, and for each of them as many as the network is deep, and one
+  pub few_steps : new.view.steps
+      ≤ old.view.steps + 1 + (old.home.start.network.depth + 1) * length clients
+  -- the lane stands in some state: so the rule holds of its names
+  pub in_state : 0 < length clients → StoodInState old.home.start new.view
+  pub yard : new.yard ≡ old.yard
+  pub room : new.room ≡ old.room - length clients

@@ -1,0 +1,121 @@
+//! Tokens that pass the ends of wires together: all who stand on a wire at once, and then each half.
+
+ghost use Rattle.std.specs.Prelude.{◌≡◌, ℕ, ◌+◌, ◌-◌, ◌/◌, ◌<◌, ◌≤◌, ◌^◌, ◌++◌, [], List, length};
+ghost use Rattle.cn_spec.specs.Step as step;
+ghost use Rattle.cn_yard.specs.Deals.{every_second};
+ghost use Rattle.cn_yard.specs.Lists.{on, times_in};
+ghost use Rattle.cn_lists.specs.Listed.{HaveLeft};
+ghost use Rattle.cn_floor.specs.Sweeps.{SweptBy, grants_out};
+ghost use Rattle.cn_floor.specs.declared.view.Grant.{Grant};
+
+use cn_balancer::output_of;
+use cn_floor::{Floor, Seat, View};
+use cn_wiring::{Counting, End};
+
+/// Which tokens stand on one wire. Of those who leave, notes of type `N` are taken.
+pub(crate) trait Party<N>: Copy {
+    /// What stays the same of notes, whoever is noted.
+    ghost Frame: { Type 0 };
+
+    ghost kept: { N → Frame };
+
+    /// How many more may be noted.
+    ghost room: { N → ℕ };
+
+    /// So many of them may be these.
+    ghost Are: { Frame → Self → ℕ → List (ℕ × ℕ) → Type 0 };
+
+    /// Of these grants all after the first ones have been noted.
+    ghost Noted: { List Grant → List Grant → N → Type 0 };
+
+    /// Every second of them, from the first on, and the others.
+    fn halves(self, count: usize) -> (Self, Self)
+        requires some { 2 ≤ count }
+        requires are { (frame : Frame) × (tokens : List (ℕ × ℕ)) × Are frame self count tokens }
+        ensures { (frame : Frame) (tokens : List (ℕ × ℕ)) → Are frame self count tokens
+            → Are frame result.0 (count - count / 2) (every_second 0 tokens)
+            × Are frame result.1 (count / 2) (every_second 1 tokens) };
+
+    /// Those who go on by output 0 of a balancer, and by output 1, of which the first goes by this output.
+    fn deal(self, count: usize, output: u32) -> (Self, Self)
+        requires some { 2 ≤ count }
+        requires output { output < 2 }
+        requires are { (frame : Frame) × (tokens : List (ℕ × ℕ)) × Are frame self count tokens }
+        ensures { (frame : Frame) (tokens : List (ℕ × ℕ)) → Are frame self count tokens
+            → Are frame result.0 (count - (count + output) / 2) (every_second output tokens)
+            × Are frame result.1 ((count + output) / 2) (every_second (1 - output) tokens) }
+    {
+        let (even, odd) = self.halves(count);
+        if output == 0 {
+            (even, odd)
+        } else {
+            (odd, even)
+        }
+    }
+
+    /// Notes that they leave by an exit with the visits from `first` on. From each name the number of clients is taken
+    /// that came before the floor began.
+    fn leave(self, notes: &mut N, count: usize, exit: u32, first: u64, width: u32, base: u64)
+        requires are { (tokens : List (ℕ × ℕ)) × Are (kept notes.old) self count tokens }
+        requires room { count ≤ room notes.old }
+        requires exit { exit < width }
+        requires low { base ≤ step.name_of width exit first }
+        requires high { step.name_of width exit (first + count) < 2 ^ 64 }
+        ensures kept { kept notes.new ≡ kept notes.old }
+        ensures room { room notes.new + count ≡ room notes.old }
+        ensures noted { (tokens : List (ℕ × ℕ)) (before now : List Grant) → length tokens ≡ count
+            → Are (kept notes.old) self count tokens → Noted before now notes.old
+            → Noted before (now ++ grants_out width base exit first tokens) notes.new };
+}
+
+/// Lets a party that stands on a wire pass its end together, and then each half, until all have left. Nobody stands
+/// on a greater wire: those who go on to the greater of two wires leave first.
+pub(crate) fn pass_all<N, P: Party<N>>(
+    floor: &Floor<'_>,
+    network: &Counting,
+    seat: &mut Seat<(), View>,
+    notes: &mut N,
+    party: P,
+    count: usize,
+    wire: u32,
+)
+    requires own { (seat.old.table_id ≡ floor.now.table)
+        × (seat.old.me.0.start ≡ floor.now.start) }
+    requires slots { (seat.old.me.1 ≡ []) × (seat.old.me.0.loads ≡ []) }
+    requires wires { length seat.old.me.0.tokens ≡ length floor.now.start.network.table.ends }
+    requires wire { wire < length floor.now.start.network.table.ends }
+    requires once { (token : ℕ) → times_in seat.old.me.0.tokens token ≤ 1 }
+    requires network { network.now ≡ floor.now.start.network }
+    requires many { length (on seat.old.me.0.tokens wire) ≡ count }
+    requires party { P.Are (P.kept notes.old) party count (on seat.old.me.0.tokens wire) }
+    requires above { (u : ℕ) → wire < u → on seat.old.me.0.tokens u ≡ [] }
+    requires room { count ≤ P.room notes.old }
+    ensures seat { (seat.new.table_id ≡ seat.old.table_id) × (seat.new.me.1 ≡ []) }
+    ensures swept { (wires : List ℕ) × SweptBy floor.now.start wires seat.old.me.0 seat.new.me.0 }
+    ensures left { HaveLeft seat.old.me.0 seat.new.me.0 wire (on seat.old.me.0.tokens wire) }
+    ensures once { (token : ℕ) → times_in seat.new.me.0.tokens token ≤ 1 }
+    ensures kept { P.kept notes.new ≡ P.kept notes.old }
+    ensures room { P.room notes.new + count ≡ P.room notes.old }
+    ensures noted { (before : List Grant) → P.Noted before seat.old.me.0.grants notes.old
+        → P.Noted before seat.new.me.0.grants notes.new }
+{
+    if count == 0 {
+        return;
+    }
+    floor.start_laws();
+    let (end, number) = floor.let_by(network, seat, wire, count as u64);
+    match end {
+        End::Balancer(balancer) => {
+            let out = network.entries() + 2 * balancer;
+            let output = output_of(number);
+            if count == 1 {
+                return pass_all(floor, network, seat, notes, party, count, out + output);
+            }
+            let many = (count + output as usize) / 2;
+            let (upper, lower) = party.deal(count, output);
+            pass_all(floor, network, seat, notes, lower, many, out + 1);
+            pass_all(floor, network, seat, notes, upper, count - many, out);
+        }
+        End::Exit(exit) => party.leave(notes, count, exit, number, network.width(), floor.base()),
+    }
+}
