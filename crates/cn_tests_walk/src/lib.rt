@@ -9,6 +9,8 @@ mod asking;
 #[cfg(test)]
 mod carried;
 #[cfg(test)]
+mod crews;
+#[cfg(test)]
 mod dropped_lanes;
 #[cfg(test)]
 mod epochs;
