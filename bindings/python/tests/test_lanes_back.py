@@ -4,8 +4,6 @@ import concurrent.futures
 import dis
 import gc
 import itertools
-import pathlib
-import re
 import sys
 import threading
 
@@ -69,17 +67,28 @@ def interrupted(call, at):
     return places
 
 
-def test_small_lanes_of_the_page_serve_all_clients():
+def test_a_floor_names_for_whichever_thread_asks():
     """Of lanes with an equal share each a quarter of the clients here found none."""
-    page = pathlib.Path(__file__).resolve().parents[1].joinpath("README.md").read_text()
-    recipe = re.search(r"^(>>> import threading\n.*?)>>> \[name", page, re.M | re.S)[1]
-    made = {"renamer": renamer}
-    exec(re.sub(r"^(>>>|\.\.\.) ?", "", recipe, flags=re.M), made)
+    floor = renamer.Floor("tree", 2, 20_000 + 16 * 1024)
     with concurrent.futures.ThreadPoolExecutor(16) as pool:
-        names = list(pool.map(made["name"], range(20_000)))
+        names = list(pool.map(floor.name, range(20_000)))
+        # The threads are there still, and their lanes go with the floor.
+        holders = floor.close().holders
     assert sorted(names) == list(range(20_000))
-    holders = made["floor"].close().holders
     assert holders[names].tolist() == list(range(20_000))
+    with pytest.raises(renamer.WasFreed):
+        floor.name(1)
+
+
+def test_a_floor_names_as_many_as_its_quota():
+    floor = renamer.Floor("tree", 2, 3)
+    assert [floor.name(client) for client in (7, 8, 9)] == [0, 1, 2]
+    for client in (10, 11):
+        with pytest.raises(renamer.QuotaSpent):
+            floor.name(client)
+    with pytest.raises(renamer.NoSuchEntry):
+        renamer.Floor("tree", 2, 3).name(1, entry=1)
+    assert floor.close().holders.tolist() == [7, 8, 9]
 
 
 def test_a_slot_has_one_owner_and_comes_back():

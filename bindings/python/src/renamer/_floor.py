@@ -5,6 +5,7 @@ from __future__ import annotations
 import os
 import threading
 import weakref
+from collections.abc import Callable
 from functools import partial
 from operator import attrgetter
 from typing import Any, Literal, NoReturn, TypeVar
@@ -20,6 +21,8 @@ _KINDS = {"bitonic": 0, "periodic": 1, "tree": 2}
 # The records that a call takes and gives, as the header has them.
 CLIENT = np.dtype([("client", "<u8"), ("entry", "<u8")])
 GRANT = np.dtype([("client", "<u8"), ("exit", "<u8"), ("visit", "<u8"), ("name", "<u8")])
+# How many clients a lane is for that `Floor.name` takes. What is left in lanes of others is out of a thread's reach.
+_SMALL = 1024
 
 _Some = TypeVar("_Some", bound="Owned")
 _owned: weakref.WeakSet[Owned] = weakref.WeakSet()
@@ -159,6 +162,12 @@ class Lane(Owned):
         return f"quota {lib.ask(lib.quota_left, self._handle)} left"
 
 
+class _Here(threading.local):
+    """What a thread has of a floor by which it named."""
+
+    lane: Lane
+
+
 class Floor:
     """A counting network on atomic words, by which at most `quota` clients get names: one epoch.
 
@@ -176,11 +185,13 @@ class Floor:
         self.network, self.width = network, width
         self._rest, call = Lane(network, width), lib.open_apart if apart else lib.open_floor
         call(self._rest._handle, *as_network(network, width), lib.in_range(quota))
+        self._here = _Here()
 
     def __enter__(self) -> Floor:
         return self
 
     def __exit__(self, *_: object) -> None:
+        self._here = _Here()
         self._rest.hand_back()
 
     def __repr__(self) -> str:
@@ -192,12 +203,26 @@ class Floor:
 
         Raises QuotaSpent if less is left, OverflowError, NoMemory, and WasFreed if the floor was closed.
         """
+        return self._split(lambda left: left if quota is None else lib.in_range(quota))
+
+    def _split(self, wanted: Callable[[int], int]) -> Lane:
         lane, rest = Lane(self.network, self.width), self._rest
         with rest._lock:
             lib.join_all(rest._handle)
-            some = lib.ask(lib.quota_left, rest._handle) if quota is None else lib.in_range(quota)
-            lib.split_lane(rest._handle, some, lane._handle)
+            lib.split_lane(rest._handle, wanted(lib.ask(lib.quota_left, rest._handle)), lane._handle)
         return lane
+
+    def name(self, client: int, entry: int = 0) -> int:
+        """The name of a client, for whichever thread asks. Each thread has a lane for 1,024 clients, or as many as are
+        left, and another one when that is spent; it is handed back when the thread has ended, or the floor is closed.
+
+        Raises QuotaSpent if nothing is left but in lanes of others, what `Lane.name` raises, and NoMemory.
+        """
+        try:
+            return self._here.lane.name(client, entry)
+        except (AttributeError, lib.QuotaSpent):
+            self._here.lane = self._split(lambda left: min(left, _SMALL))
+        return self._here.lane.name(client, entry)
 
     def close(self) -> Quiet:
         """Takes in all lanes that were handed back, and closes the floor.
@@ -205,6 +230,8 @@ class Floor:
         Raises LanesMissing or LanesThere while a lane is open, NoMemory, and WasFreed if the floor was closed.
         """
         quiet, rest = lib.Handle(), self._rest
+        # With the old one go the lanes of all threads.
+        self._here = _Here()
         try:
             with rest._lock:
                 lib.join_all(rest._handle)
