@@ -89,6 +89,7 @@ COMPACT = "14286 of 100000 numbers are kept, without gaps\n"
 PROGRAMS = (
     Program(C / "tests" / "carried.c", is_long=True),
     Program(C / "tests" / "frozen.c", is_long=True),
+    Program(C / "tests" / "behind.c", is_long=True),
     Program(C / "tests" / "atomic_steps.c", is_long=True),
     Program(C / "examples" / "pool.c", prints="622 workers have the numbers 0 to 621\n"),
     TABLE,
