@@ -102,6 +102,20 @@ class Cases:
     def given(self):
         return json.dumps({"wirings": self.wirings, "schedules": self.schedules, "texts": self.texts})
 
+    def by_hand(self):
+        """A schedule on bitonic 8 that is written into the page, and its answers."""
+        at = next(at for at, it in enumerate(self.schedules)
+                  if not it["carries"] and it["kind"] == "bitonic" and it["width"] == 8)
+        return self.schedules[at]["schedule"], self.answers[at]
+
+    @staticmethod
+    def long_walk():
+        """A schedule of 19,990 records on bitonic 32: 1,330 clients come in, and most of them walk out."""
+        clients = range(1330)
+        records = [f"enter,{client},{client % 32}" for client in clients]
+        records += [f"step,{client}," for _ in range(16) for client in clients]
+        return "".join(f"{line}\n" for line in ["op,client,wire", *records[:19990]])
+
     def wrong(self, found):
         """Each thing that was found and not expected."""
         for (network, width), lines in zip(self.wirings, found["wirings"], strict=True):
