@@ -109,7 +109,7 @@ PROGRAMS = (
     Program(C / "tests" / "rounds.c", GROWTHS),
     Program(C / "tests" / "many_lanes.c"),
     Program(C / "tests" / "lane_after_lane.c", GROWTHS),
-    Program(C / "tests" / "lanes_at_once.c"),
+    Program(C / "tests" / "lanes_at_once.c", GROWTHS),
     Program(C / "tests" / "one_for_each.c"),
     Program(C / "tests" / "takers.c", GROWTHS),
     Program(C / "tests" / "refilled.c"),

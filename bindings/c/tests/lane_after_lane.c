@@ -1,7 +1,8 @@
 /*
- * Lanes that come and go one after another, 100,000 of them: each names a client and is handed back, which takes no memory
- * and is never refused. They take no more memory than one if they are joined, and the floor is closed by all of them
- * also if none is joined before the end. No split takes more growths of memory than the first.
+ * Lanes that come and go one after another, 100,000 of them: each names a client and is handed back, which takes no
+ * memory and is never refused. They take no more memory than one if they are joined, and the floor is closed by all of
+ * them also if none is joined before the end. No split takes more growths of memory than the first, also if lanes are
+ * freed with a client inside.
  */
 #include "growths.h"
 #include "judge.h"
@@ -34,7 +35,9 @@ static void one_after_another(int count, int are_joined) {
 /* How many growths a split takes. */
 static long growths_of_split(renamer_lane *lane, renamer_lane *other) {
     long asked = growths_asked();
-    CHECK(renamer_split(lane, 0, other) == RENAMER_DONE);
+    uint64_t quota;
+    CHECK(renamer_quota(lane, &quota) == RENAMER_DONE);
+    CHECK(renamer_split(lane, quota > 0, other) == RENAMER_DONE);
     return growths_asked() - asked;
 }
 
@@ -54,9 +57,24 @@ static void as_the_first(int count) {
     close_floor(&lane, 0);
 }
 
+/* Lanes one after another that are freed with a client inside. */
+static void freed_with_one_inside(int count) {
+    renamer_lane lane = RENAMER_NO_LANE_YET, other = RENAMER_NO_LANE_YET;
+    long first = LONG_MAX;
+    CHECK(renamer_open(&lane, RENAMER_TREE, 64, (uint64_t)count) == RENAMER_DONE);
+    for (int client = 0; client < count; client++) {
+        long growths = growths_of_split(&lane, &other);
+        CHECK(growths <= first && renamer_enter(&other, (uint64_t)client, 0) == RENAMER_DONE);
+        renamer_free(&other);
+        first = growths;
+    }
+    renamer_free(&lane);
+}
+
 int main(int count, char **words) {
     int lanes = count > 1 ? atoi(words[1]) : 100000;
     as_the_first(lanes);
+    freed_with_one_inside(lanes);
     one_after_another(lanes, 1);
     one_after_another(lanes, 0);
     CHECK(growths_live() == 0);
