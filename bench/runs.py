@@ -1,11 +1,10 @@
 #!/usr/bin/env python3
 """The processor time of `renamer run`, beside `plain walk`, which does the same by single steps. Five runs each.
 
-The peer links its tokens, and clears its words between epochs. By one worker: the full batch, 16 epochs of 65,536 clients
-with random identities and entries, on bitonic 64 and periodic 64 and, through its one entry, on the tree of width 64;
-65,536 epochs of one client, as grants; and four epochs of 262,144 clients on bitonic 256. By four workers the full batch
-on bitonic 64, by the clock too: threads may wait. And the full batch beside a Python script that keeps a dict from client
-to name, as grants.
+The peer links its tokens, and clears its words between epochs. They run the full batch, 16 epochs of 65,536 clients with
+random identities and entries, on bitonic 64 and periodic 64 and, through its one entry, on the tree of width 64; and
+65,536 epochs of one client, as grants. And the full batch runs beside a Python script that keeps a dict from client to
+name, as grants.
 """
 import sys
 
@@ -27,33 +26,24 @@ sys.stdout.writelines(lines)
 def rows(bench):
     rounds = bench.size(5, 3)
 
-    def pair(network, workers, hand, form="report", width=64):
-        ours = bench.ours(network, width, "--workers", workers, "--hand", hand, "--form", form)
-        return ours, [bench.plain, "walk", network, *map(str, (width, workers, hand)), form]
+    def pair(network, hand, form="report"):
+        ours = bench.ours(network, 64, "--hand", hand, "--form", form)
+        return ours, [bench.plain, "walk", network, "64", str(hand), form]
 
     def compare(name, jobs, path):
         bench.agree(jobs, path)
         return bench.compare(name, [(words, path) for words in jobs], rounds)
 
     many, one = bench.full(64), bench.full(1)
-    yield compare("tree 64, hand 1", pair("tree", 1, 1), one)
-    yield compare("bitonic 64, hand 1", pair("bitonic", 1, 1), many)
-    yield compare("bitonic 64, hand 64", pair("bitonic", 1, 64), many)
-    yield compare("periodic 64, hand 64", pair("periodic", 1, 64), many)
-    yield compare("epochs of one client", pair("bitonic", 1, 1, "grants"), bench.single(bench.size(65_536, 4_096)))
-
-    wide = bench.batch("wide", 4, bench.size(262_144, 8_192), 256)
-    yield compare("bitonic 256, large epochs", pair("bitonic", 1, 1, width=256), wide)
-
-    four = pair("bitonic", 4, 1)
-    bench.agree(four, many, seen=measure.settled)
-    spent = bench.in_turn([(words, many) for words in four], rounds)
-    yield measure.ratio("bitonic 64, hand 1, four workers", spent)
-    yield measure.ratio("bitonic 64, hand 1, four workers, by the clock", spent, "clock")
+    yield compare("tree 64, hand 1", pair("tree", 1), one)
+    yield compare("bitonic 64, hand 1", pair("bitonic", 1), many)
+    yield compare("bitonic 64, hand 64", pair("bitonic", 64), many)
+    yield compare("periodic 64, hand 64", pair("periodic", 64), many)
+    yield compare("epochs of one client", pair("bitonic", 1, "grants"), bench.single(bench.size(65_536, 4_096)))
 
     script = bench.folder / "script.py"
     script.write_text(SCRIPT)
-    ours, _ = pair("bitonic", 1, 1, "grants")
+    ours, _ = pair("bitonic", 1, "grants")
     yield compare("a Python script with a dict", (ours, [sys.executable, str(script)]), many)
 
 

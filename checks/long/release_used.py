@@ -3,10 +3,13 @@ import os
 import pathlib
 import re
 import shutil
+import signal
+import subprocess
 import sys
 import textwrap
 
 import library_python
+import library_readme
 from library_programs import ARM, ARM_CC, ARM_HOME, ARM_RUN, TABLE, NotTried, Wrong, compiled, run, run_by_least
 from release_made import Made
 from released import (ARM_NAME, AS_ROOT, AT_TOP, PACKAGES, ROOT, VERSION, WHEEL, add_libraries, do_examples, files, in_root,
@@ -28,6 +31,18 @@ class Used(Made):
         (self.folder / "empty" / to).mkdir(parents=True)
         shutil.copy(self.tree / source, self.folder / "empty" / to)
         do_examples(in_root(self.folder / "empty", f"/{to}/{pathlib.Path(source).name}"))
+
+    def runs_in_a_container(self):
+        """By the commands that INSTALL.md shows, with another name than a user's own image."""
+        works = (tool for tool in filter(shutil.which, ("docker", "podman"))
+                 if subprocess.run([tool, "info"], stdin=subprocess.DEVNULL, capture_output=True).returncode == 0)
+        if not (tool := next(works, None)):
+            raise NotTried("neither docker nor podman runs one here; what its file says was tried in an empty root")
+        page, image = (self.pages / "docs" / "INSTALL.md").read_text(), f"renamer-tried-{os.getpid()}"
+        build, start = re.search(r"^    docker (build .*)\n    docker (run .*) run .* < ", page, re.M).groups()
+        run([tool, *build.replace("-t renamer", f"-t {image}").split()], self.tree)
+        do_examples([tool, *start.replace("-i renamer", f"-i {image}").split()])
+        run([tool, "image", "rm", image])
 
     def runs_on_arm(self):
         """The program prints what the page of examples shows, and examples in C run, with each form of the library."""
@@ -74,6 +89,12 @@ class Used(Made):
         if lacking := [name for name in wanted if f"/{name}\n" not in packed]:
             raise Wrong(f"it lacks {lacking}")
 
+    def programs_are_built_with_it(self):
+        """Each program of a page, with the archive, the headers and the crate that were unpacked, and no kit."""
+        library_readme.OUT, library_readme.RUST = self.pages / "out", self.tree / "share" / "renamer" / "rust"
+        for name in library_readme.PROGRAMS:
+            library_readme.check(name, self.folder)
+
     def checks_itself(self):
         printed = run([self.tree / "share" / "renamer" / "check"], self.folder)
         if not re.search(r"^\d+ passed, 0 failed\n\Z", printed, re.M):
@@ -91,6 +112,30 @@ class Used(Made):
         run([place / "usr" / "share" / "renamer" / "check"], self.folder)
         run([self.tree / "install", "--remove", "/usr"], DESTDIR=str(place))
         if files(place):
+            raise Wrong(f"this is left: {files(place)}")
+
+    def install_may_be_killed(self):
+        """By -9, while it copies, or takes away what is there: it is repeated, and what it left is taken away."""
+        place, install = self.folder / "killed", [self.tree / "install", "/usr"]
+        made, own = place / "usr" / "share" / "renamer" / "installed", {"DESTDIR": str(place)}
+
+        def kill_at(lines):
+            begun = subprocess.Popen(install, env={**os.environ, **own}, stdin=subprocess.DEVNULL,
+                                     stdout=subprocess.DEVNULL, stderr=subprocess.DEVNULL, start_new_session=True)
+            while begun.poll() is None and not (made.exists() and made.read_text().count("\n") >= lines):
+                pass
+            if begun.poll() is not None:
+                raise Wrong(f"it ended before its list had {lines} lines")
+            os.killpg(begun.pid, signal.SIGKILL)
+            begun.wait()
+
+        kill_at(500)
+        run(install, **own)
+        if lacking := (files(self.tree) ^ files(place / "usr")) - AT_TOP - {"share/renamer/installed"}:
+            raise Wrong(f"repeated it copies otherwise {lacking}")
+        kill_at(1)
+        run([install[0], "--remove", "/usr"], **own)
+        if list(place.rglob("*")):
             raise Wrong(f"this is left: {files(place)}")
 
     def commands_run_elsewhere(self):

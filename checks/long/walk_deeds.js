@@ -180,12 +180,13 @@ function wrongExtras() {
 }
 
 // Walk all hurries: 20 steps come at the speed that was chosen, and then each sooner than the one before, or as soon.
+// The page waits too before it writes its address.
 async function wrongHurry() {
     const later = window.setTimeout, waits = [];
     openStop(5);
     choose("speed", 450);
     window.setTimeout = (what, time) => {
-        if (time !== undefined) waits.push(time);
+        if (time !== undefined && time !== IDLE) waits.push(time);
         return later(what);
     };
     press("w");
@@ -201,10 +202,14 @@ async function wrongHurry() {
 async function wrongByHand(schedule, answers) {
     choose("kind", "bitonic");
     choose("width", 8);
+    const changed = address => until(() => location.hash !== address), before = location.hash;
     load(["op,client,wire", ...schedule].join("\n"));
     const wrong = `${said("answers")}\n` === answers ? [] : [`a schedule by hand: ${said("answers")}`];
+    // The page writes its address a little later.
+    await changed(before);
     const address = location.hash;
     press("b");
+    await changed(address);
     location.hash = address;
     await until(() => `${said("answers")}\n` === answers);
     return `${said("answers")}\n` === answers ? wrong : [...wrong, `an address: ${said("answers")}`];

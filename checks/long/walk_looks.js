@@ -109,7 +109,7 @@ async function wrongSaved() {
     let copied = "";
     navigator.clipboard.writeText = async words => { copied = words; };
     click("#link");
-    await until(() => copied);
+    await until(() => copied === location.href);
     if (copied !== location.href) wrong.push(`copied is ${copied}`);
     await tick(50);
     click("#save");

@@ -130,12 +130,13 @@ function start(library) {
     $("most").textContent = `Here it has ${records} records at most, and an epoch ${clients} clients, a floor's quota.`;
     listen(page);
     // Other addresses are those of headings.
-    const isWalk = () => /^#[a-z]+-/.test(location.hash);
-    page.attempt(() => { if (isWalk()) page.read(location.hash); });
-    window.addEventListener("hashchange", () => {
-        if (!isWalk() || location.hash === page.address()) return;
+    const isWalk = address => /^#[a-z]+-/.test(address);
+    page.attempt(() => { if (isWalk(location.hash)) page.read(location.hash); });
+    window.addEventListener("hashchange", ({newURL}) => {
+        const {hash} = new URL(newURL);
+        if (!isWalk(hash) || hash === page.address()) return;
         page.stop();
-        page.attempt(() => page.read(location.hash));
+        page.attempt(() => page.read(hash));
     });
 }
 

@@ -1,7 +1,7 @@
 "use strict";
 // What the page says beside the network.
-// Of long walks the schedule is written when it is clicked, and the address when nothing has happened for so many
-// milliseconds.
+// The address is written when nothing has happened for so many milliseconds: browsers leave it as it was if it changes
+// too often.
 const IDLE = 400;
 // So many answers are one piece of the text, and only pieces in sight are laid out.
 const PIECE = 100;
@@ -140,22 +140,11 @@ function showAnswers({floor, answers}) {
     list.scrollTop = list.scrollHeight;
 }
 
-// The schedule and the address have the whole walk.
+// The schedule and the address have the whole walk; the schedule of a long one is written when it is clicked.
 function writeWalk(page) {
-    const isShort = page.commands.length <= SHORT_WALK, write = () => keepAddress(page.address());
     clearTimeout(page.idle);
-    if (isShort) write();
-    else page.idle = setTimeout(write, IDLE);
+    page.idle = setTimeout(() => history.replaceState(null, "", page.address()), IDLE);
     if (page.fault) return;
     $("schedule").placeholder = `Click here to see the ${page.commands.length} records.`;
-    $("schedule").value = isShort ? textOf(page.commands) : "";
-}
-
-// The address is left as it was if the browser finds that it changes too often.
-function keepAddress(address) {
-    try {
-        history.replaceState(null, "", address);
-    } catch {
-        // The next change sets it.
-    }
+    $("schedule").value = page.commands.length <= SHORT_WALK ? textOf(page.commands) : "";
 }

@@ -1,8 +1,7 @@
 //! The peers, in plain Rust without contracts. Each does the work of a job of the program, and prints the same:
 //!
-//!     plain check                                    judges a grant list by width 4
-//!     plain run                                      runs a batch on the tree of width 2, each client straight through
-//!     plain walk NETWORK WIDTH WORKERS HAND FORM     runs a batch as `renamer run` does, by single steps
+//!     plain run                              runs a batch on the tree of width 2, each client straight through
+//!     plain walk NETWORK WIDTH HAND FORM     runs a batch as `renamer run` does, by single steps
 
 mod network;
 mod reading;
@@ -14,10 +13,9 @@ use std::process::ExitCode;
 
 fn perform(words: &[String]) -> Result<String, Refused> {
     match words.iter().map(String::as_str).collect::<Vec<_>>()[..] {
-        ["check"] => reading::check(),
         ["run"] => reading::run(),
         ["walk", ..] => reading::walk(&words[1..]),
-        _ => Err("plain check | run | walk".to_string()),
+        _ => Err("plain run | walk".to_string()),
     }
 }
 

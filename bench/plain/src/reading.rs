@@ -1,6 +1,6 @@
 //! The peers of the jobs that read CSV.
 
-use crate::walks::{Floor, Workers};
+use crate::walks::{Floor, Worker};
 use csv::{ByteRecord, Reader, ReaderBuilder};
 use indexmap::IndexSet;
 use std::fmt::Write as _;
@@ -39,78 +39,6 @@ fn three(at: u64, row: &ByteRecord) -> Result<(u64, u64, u64), Refused> {
         _ => Err(format!("record {at}: number")),
     }
 }
-
-// ---- check
-
-const WIDTH: u64 = 4;
-
-/// The grants of the latest epoch.
-#[derive(Default)]
-struct Granting {
-    epoch: u64,
-    clients: IndexSet<u64>,
-    names: IndexSet<u64>,
-    text: String,
-    epochs: u64,
-    grants: u64,
-}
-
-impl Granting {
-    fn finish(&mut self) -> Result<(), Refused> {
-        let count = self.names.len() as u64;
-        if count == 0 {
-            return Ok(());
-        }
-        if let Some(name) = (0..count).find(|name| !self.names.contains(name)) {
-            return Err(format!("Gap epoch {} name {name}", self.epoch));
-        }
-        write!(self.text, "epoch {} clients {count} counts", self.epoch).unwrap();
-        for exit in 0..WIDTH {
-            write!(self.text, " {}", (count + WIDTH - 1 - exit) / WIDTH).unwrap();
-        }
-        self.text.push('\n');
-        self.epochs += 1;
-        self.grants += count;
-        self.clients.clear();
-        self.names.clear();
-        Ok(())
-    }
-
-    fn take(&mut self, at: u64, grant: (u64, u64, u64)) -> Result<(), Refused> {
-        let (epoch, client, name) = grant;
-        if epoch < self.epoch {
-            return Err(format!("record {at}: Form"));
-        }
-        if epoch > self.epoch {
-            self.finish()?;
-            self.epoch = epoch;
-        }
-        if !self.clients.insert(client) {
-            return Err(format!("DuplicateClient record {at}"));
-        }
-        if !self.names.insert(name) {
-            return Err(format!("DuplicateName record {at}"));
-        }
-        Ok(())
-    }
-}
-
-pub fn check() -> Result<String, Refused> {
-    let mut rows = open([b"epoch", b"client", b"name"])?;
-    let mut row = ByteRecord::new();
-    let mut granting = Granting::default();
-    let mut at = 0;
-    while rows.read_byte_record(&mut row).map_err(|e| e.to_string())? {
-        at += 1;
-        granting.take(at, three(at, &row)?)?;
-    }
-    granting.finish()?;
-    let Granting { mut text, epochs, grants, .. } = granting;
-    writeln!(text, "tight epochs {epochs} grants {grants}").unwrap();
-    Ok(text)
-}
-
-// ---- run
 
 pub struct Client {
     pub id: u64,
@@ -212,18 +140,18 @@ fn put_grants(text: &mut String, epoch: &Epoch, holders: &[u64]) {
 }
 
 pub fn walk(words: &[String]) -> Result<String, Refused> {
-    let [kind, width, workers, hand, form] = words else {
-        return Err("plain walk NETWORK WIDTH WORKERS HAND FORM".to_string());
+    let [kind, width, hand, form] = words else {
+        return Err("plain walk NETWORK WIDTH HAND FORM".to_string());
     };
     let size = |word: &String| word.parse::<usize>().map_err(|e| e.to_string());
-    let (width, workers, hand) = (size(width)?, size(workers)?, size(hand)?);
+    let (width, hand) = (size(width)?, size(hand)?);
     let floor = Floor::new(kind, width);
-    let mut workers = Workers::new(&floor, workers, hand);
+    let mut worker = Worker::new(&floor, hand);
     let epochs = read_batch(floor.entries() as u64)?;
     let is_list = form == "grants";
     let mut text = if is_list { "epoch,client,name\n".to_string() } else { floor.heading(kind) };
     for epoch in &epochs {
-        let holders = workers.run(&floor, epoch);
+        let holders = worker.run(&floor, epoch);
         if is_list {
             put_grants(&mut text, epoch, &holders);
         } else {

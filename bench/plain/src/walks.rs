@@ -1,4 +1,4 @@
-//! Runs of a batch by many workers, each token by single steps.
+//! Runs of a batch, each token by single steps.
 
 use crate::network::{End, Network, bitonic_network, heading, periodic_network};
 use crate::reading::{Client, Epoch};
@@ -149,23 +149,16 @@ impl Floor {
     }
 }
 
-/// A worker's own.
-struct Lane {
+/// A worker, with so many tokens in hand.
+pub struct Worker {
     yard: Yard,
     grants: Vec<(u64, u64)>,
-}
-
-/// So many workers, each with so many tokens in hand.
-pub struct Workers {
-    lanes: Vec<Lane>,
     hand: usize,
 }
 
-impl Workers {
-    pub fn new(floor: &Floor, workers: usize, hand: usize) -> Workers {
-        let wires = floor.network.ends.len();
-        let lane = |_| Lane { yard: Yard::new(wires, hand), grants: Vec::new() };
-        Workers { lanes: (0..workers).map(lane).collect(), hand }
+impl Worker {
+    pub fn new(floor: &Floor, hand: usize) -> Worker {
+        Worker { yard: Yard::new(floor.network.ends.len(), hand), grants: Vec::new(), hand }
     }
 
     /// The holders of the names of an epoch.
@@ -173,23 +166,10 @@ impl Workers {
         for word in &floor.words {
             word.store(0, Ordering::Release);
         }
-        let (count, workers, hand) = (epoch.clients.len(), self.lanes.len(), self.hand);
-        let part = |j: usize| &epoch.clients[j * count / workers..(j + 1) * count / workers];
-        let walk = |j: usize, lane: &mut Lane| floor.walk(&mut lane.yard, part(j), hand, &mut lane.grants);
-        if workers == 1 {
-            walk(0, &mut self.lanes[0]);
-        } else {
-            std::thread::scope(|scope| {
-                for (j, lane) in self.lanes.iter_mut().enumerate() {
-                    scope.spawn(move || walk(j, lane));
-                }
-            });
-        }
-        let mut holders = vec![0; count];
-        for lane in &mut self.lanes {
-            for (client, name) in lane.grants.drain(..) {
-                holders[name as usize] = client;
-            }
+        floor.walk(&mut self.yard, &epoch.clients, self.hand, &mut self.grants);
+        let mut holders = vec![0; epoch.clients.len()];
+        for (client, name) in self.grants.drain(..) {
+            holders[name as usize] = client;
         }
         holders
     }
