@@ -70,9 +70,10 @@ MOST = {
     "cn_yard": {".resize": 2},
     "cn_epoch": {".turn": 1},
     # What the program gets from its system.
-    "renamer": {"HostRuntime": 2, "Input": 1, "Print": 1, "std::env": ANY, "std::env::Env": ANY, "std::env::args": 1,
-                "std::io::ErrorKind": ANY, "std::io::IsTerminal": ANY, "std::io::writer": 1, "std::process::ExitCode": ANY,
-                "std::process::ExitCode::from": 1},
+    "cn_streams": {"HostRuntime": 1, "std::env": ANY, "std::env::Env": ANY, "std::env::args": 1,
+                   "std::io::ErrorKind": ANY, "std::io::IsTerminal": ANY},
+    "renamer": {"HostRuntime": 1, "Input": 1, "Print": 1, "std::env::Env": ANY, "std::io::writer": 1,
+                "std::process::ExitCode": ANY, "std::process::ExitCode::from": 1},
     "renamer_c": {
         # Places for lanes that were handed back, and how many are in which state.
         **{f"counted_slot::{name}": ANY for name in ("Claim", "Counted", "Fits", "FREE", "MARKED", "MOST_READERS",

@@ -1,6 +1,6 @@
 use Rattle.std.proofs.Common.{◌≡◌, length}
 use Rattle.std.specs.Io.KnownBytes.{Keeps}
-use Rattle.renamer.proofs.retried.RetriedRead.read.Given as goal
+use Rattle.cn_streams.proofs.retried.RetriedRead.read.Given as goal
 
 -- what is left to be read is as it was
 abbrev pub invariant-loop : goal.invariant-loop

@@ -1,5 +1,5 @@
 use Rattle.std.specs.Io.KnownBytes.{Keeps}
-use Rattle.renamer.proofs.retried.RetriedWrite.write.Given as goal
+use Rattle.cn_streams.proofs.retried.RetriedWrite.write.Given as goal
 
 -- what was written is as it was
 abbrev pub invariant-loop : goal.invariant-loop

@@ -8,13 +8,13 @@ const MOST_INTERRUPTS: u64 = u64::MAX;
 /// A stream of which a call that a signal interrupts is made again, as often as it is interrupted. To contracts it has
 /// the bytes of the stream.
 #[derive(Drop)]
-pub(crate) struct Retried<S> {
+pub struct Retried<S> {
     stream: S,
 }
 
 impl<S> Retried<S> {
     /// The stream, so that a call that a signal interrupts is made again.
-    pub(crate) fn new(stream: S) -> Self {
+    pub fn new(stream: S) -> Self {
         Retried { stream }
     }
 }
