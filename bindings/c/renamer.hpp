@@ -23,6 +23,8 @@
 
 #include <cstddef>
 #include <cstdint>
+#include <memory>
+#include <new>
 #include <utility>
 #include <vector>
 
@@ -308,17 +310,17 @@ class taker_pool {
   public:
     /* Opens a floor with so many takers, at most RENAMER_MOST_CLIENTS: as many as threads may run at once. Takers that
        the pool had before are let go, so no thread may have one of them. */
-    status open(kind kind, std::uint32_t width, std::uint64_t count, bool apart = false) {
+    status open(kind kind, std::uint32_t width, std::uint64_t count, bool apart = false) noexcept {
         slot_pool slots;
         taker first;
         status last = slots.open(count);
         if (last == status::done) last = first.open(kind, width, apart);
-        std::vector<taker> list(last == status::done ? static_cast<std::size_t>(count) : 0);
-        for (taker &each : list)
-            if (last == status::done) last = first.split(each);
         if (last != status::done) return last;
-        takers.swap(list);
-        places = std::move(slots);
+        std::unique_ptr<taker[]> list(new (std::nothrow) taker[static_cast<std::size_t>(count)]);
+        if (!list) return status::memory;
+        for (std::size_t at = 0; last == status::done && at < count; at++)
+            last = first.split(list[at]);
+        if (last == status::done) takers = std::move(list), places = std::move(slots);
         return last;
     }
 
@@ -335,7 +337,7 @@ class taker_pool {
 
   private:
     slot_pool places;
-    mutable std::vector<taker> takers;
+    std::unique_ptr<taker[]> takers;
 };
 
 } // namespace renamer
