@@ -21,8 +21,8 @@ the system. It measures the names only, and not what is made before. Rows of lan
 by one thread: split off, handed back and joined, with as many there as the row says; the same of every eighth by turns,
 while the others are out; and a join while none is back. Rows of slots are what it takes to take one of so many and to
 give it back, while the others are free or out; and the same of 1,000 by a free list behind a mutex, by a bitmap, and by
-boost's stack and queue without a lock. The rows of slabs are left out if the folder of crates has none, and those of
-C++ if a header is not there.
+boost's stack and queue and moodycamel's queue, all without a lock. The rows of slabs are left out if the folder of
+crates has none, and those of C++ if a header is not there.
 """
 import os
 import statistics
@@ -49,8 +49,9 @@ SLABS = {"a mutex and slab": "slab", "a mutex and slab, given back": "slab-back"
          "a sharded slab": "sharded", "a sharded slab, given back": "sharded-back"}
 IN_C = {"a concurrent vector": "vector"}
 POOLS = {"a mutex and free list": "list", "a bitmap": "bitmap", "a stack without a lock": "stack",
-         "a queue without a lock": "queue"}
-HEADERS = "/usr/include/tbb/concurrent_vector.h", "/usr/include/boost/lockfree/stack.hpp"
+         "a queue without a lock": "queue", "moodycamel's queue": "moodycamel"}
+HEADERS = ("/usr/include/tbb/concurrent_vector.h", "/usr/include/boost/lockfree/stack.hpp",
+           "/usr/include/concurrentqueue/concurrentqueue.h")
 BY_LISTS = (" by lists of 64", " by takes of 64")
 ALL_OVER = {f"{network} {width} by all entries": ["all-over", network, str(width)]
             for network, width in NETWORKS if network == "bitonic"}

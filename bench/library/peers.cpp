@@ -3,9 +3,10 @@
 // stack or a queue without a lock. Nanoseconds a name or a slot by the clock and of a processor, the median of so many
 // rounds after a first.
 //
-//     peers vector|list|bitmap|stack|queue THREADS ROUNDS
+//     peers vector|list|bitmap|stack|queue|moodycamel THREADS ROUNDS
 #include <boost/lockfree/queue.hpp>
 #include <boost/lockfree/stack.hpp>
+#include <concurrentqueue/concurrentqueue.h>
 #include <tbb/concurrent_vector.h>
 
 #include <algorithm>
@@ -119,6 +120,16 @@ template <typename Free> struct WithoutLock {
     void give(std::uint64_t slot) { free.push(slot); }
 };
 
+struct Moodycamel {
+    moodycamel::ConcurrentQueue<std::uint64_t> free{SLOTS};
+
+    std::uint64_t take() {
+        std::uint64_t slot = NONE;
+        return free.try_dequeue(slot) ? slot : NONE;
+    }
+    void give(std::uint64_t slot) { free.enqueue(slot); }
+};
+
 template <typename Pool> static Spent pool(std::uint64_t threads) {
     auto slots = std::make_unique<Pool>();
     for (std::uint64_t slot = 0; slot < SLOTS; slot++)
@@ -145,6 +156,7 @@ static Spent round_of(const char *way, std::uint64_t threads) {
     if (std::strcmp(way, "bitmap") == 0) return pool<Bitmap>(threads);
     if (std::strcmp(way, "stack") == 0) return pool<WithoutLock<boost::lockfree::stack<std::uint64_t>>>(threads);
     if (std::strcmp(way, "queue") == 0) return pool<WithoutLock<boost::lockfree::queue<std::uint64_t>>>(threads);
+    if (std::strcmp(way, "moodycamel") == 0) return pool<Moodycamel>(threads);
     std::exit(2);
 }
 

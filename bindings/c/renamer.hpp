@@ -23,6 +23,8 @@
 
 #include <cstddef>
 #include <cstdint>
+#include <memory>
+#include <new>
 #include <utility>
 #include <vector>
 
@@ -285,6 +287,57 @@ class taker : public owner<renamer_taker, renamer_free_taker> {
     }
 
     status entered(std::uint64_t &entered) const noexcept { return status(renamer_takes_entered(&handle, &entered)); }
+};
+
+/* A taker of a pool, or none, which this object has until its end. It stays where it is. */
+class own_taker {
+  public:
+    own_taker() noexcept = default;
+    own_taker(const own_taker &) = delete;
+    own_taker &operator=(const own_taker &) = delete;
+
+    /* The taker, as long as its pool is there, or null. */
+    taker *operator->() const noexcept { return has; }
+
+  private:
+    friend class taker_pool;
+    slot place;
+    taker *has = nullptr;
+};
+
+/* Takers of one floor for whichever thread asks: who has slot i uses taker i. */
+class taker_pool {
+  public:
+    /* Opens a floor with so many takers, at most RENAMER_MOST_CLIENTS: as many as threads may run at once. Takers that
+       the pool had before are let go, so no thread may have one of them. */
+    status open(kind kind, std::uint32_t width, std::uint64_t count, bool apart = false) noexcept {
+        slot_pool slots;
+        taker first;
+        status last = slots.open(count);
+        if (last == status::done) last = first.open(kind, width, apart);
+        if (last != status::done) return last;
+        std::unique_ptr<taker[]> list(new (std::nothrow) taker[static_cast<std::size_t>(count)]);
+        if (!list) return status::memory;
+        for (std::size_t at = 0; last == status::done && at < count; at++)
+            last = first.split(list[at]);
+        if (last == status::done) takers = std::move(list), places = std::move(slots);
+        return last;
+    }
+
+    /* Gives `own` a taker, without a lock: the one that it has, or else one that is free; if none is, it returns
+       status::nothing_back. Let `own` be thread_local, and the taker is free again as its thread ends. */
+    status for_this_thread(own_taker &own) const noexcept {
+        std::uint64_t number = 0;
+        if (own.has) return status::done;
+        status last = places.take(own.place);
+        if (last == status::done && (last = own.place.number(number)) == status::done)
+            own.has = &takers[static_cast<std::size_t>(number)];
+        return last;
+    }
+
+  private:
+    slot_pool places;
+    std::unique_ptr<taker[]> takers;
 };
 
 } // namespace renamer

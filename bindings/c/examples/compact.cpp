@@ -1,5 +1,5 @@
 // Keeps the numbers of a list that pass a filter, without gaps and in any order: threads put what they keep at the places
-// that takers give them. Threads come and go, and get their takers without a lock: who has slot i uses taker i.
+// that takers give them. Threads come and go, and get their takers of a pool, without a lock.
 #include "renamer.hpp"
 #include <algorithm>
 #include <array>
@@ -24,21 +24,17 @@ static bool is_kept(std::uint64_t number) { return number % 7 == 0; }
 // What threads share.
 struct shared {
     list from, to;
-    renamer::slot_pool slots;
-    std::array<renamer::taker, at_once> takers;
+    renamer::taker_pool takers;
 };
 
 // Copies what is kept of one part.
 static void keep_part(shared &all, std::size_t first) {
-    renamer::slot slot; // is free again at the end of this call
-    std::uint64_t own = 0;
-    must(all.slots.take(slot));
-    must(slot.number(own));
-    renamer::taker &taker = all.takers[static_cast<std::size_t>(own)];
+    renamer::own_taker taker; // is free again at the end of this call
+    must(all.takers.for_this_thread(taker));
     for (std::size_t at = first; at < first + part; at++) {
         std::uint64_t place = 0;
         if (!is_kept(all.from[at])) continue;
-        must(taker.take(0, place));
+        must(taker->take(0, place));
         all.to[static_cast<std::size_t>(place)] = all.from[at];
     }
 }
@@ -48,10 +44,7 @@ int main() {
     for (std::uint64_t number = 0; number < numbers; number++)
         all.from.push_back(number * number);
     all.to.resize(numbers);
-    must(all.slots.open(at_once));
-    must(all.takers[0].open(renamer::kind::tree, 2));
-    for (std::size_t taker = 1; taker < at_once; taker++)
-        must(all.takers[0].split(all.takers[taker]));
+    must(all.takers.open(renamer::kind::tree, 2, at_once));
     std::array<std::thread, at_once> threads;
     for (std::size_t first = 0; first < numbers; first += part) {
         std::thread &next = threads[first / part % at_once];

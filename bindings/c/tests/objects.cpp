@@ -190,10 +190,34 @@ static void share() {
     CHECK(first.join_all() == status::done && first.close(quiet) == status::done);
 }
 
+// Threads that come and go get takers by a pool that they share: one for each thread, and a status if none is free.
+static void share_takers() {
+    renamer::taker_pool pool;
+    const renamer::taker_pool &asked = pool;
+    renamer::own_taker own, more;
+    std::uint64_t name = 99;
+    CHECK(asked.for_this_thread(own) == status::none && !own.operator->());
+    CHECK(pool.open(kind::tree, 3, 2) == status::width && pool.open(kind::tree, 2, 2) == status::done);
+    CHECK(asked.for_this_thread(own) == status::done && own->take(0, name) == status::done && name == 0);
+    for (std::uint64_t thread = 0; thread < 3; thread++)
+        std::thread([&asked, thread] {
+            static thread_local renamer::own_taker taker;
+            renamer::own_taker none;
+            std::uint64_t next = 99;
+            for (std::uint64_t turn = 1; turn < 4; turn++)
+                CHECK(asked.for_this_thread(taker) == status::done && taker->take(0, next) == status::done
+                      && next == 3 * thread + turn);
+            CHECK(asked.for_this_thread(none) == status::nothing_back && !none.operator->());
+        }).join();
+    CHECK(asked.for_this_thread(more) == status::done && more.operator->() != own.operator->());
+    CHECK(asked.for_this_thread(own) == status::done && own->take(0, name) == status::done && name == 10);
+}
+
 int main() {
     refused();
     close_and_go_on();
     share();
     take_slots();
     take();
+    share_takers();
 }

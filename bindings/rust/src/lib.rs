@@ -52,7 +52,7 @@ pub use lane::{Client, Grant, Lane};
 pub use quiet::Quiet;
 pub use slots::{Slot, Slots};
 pub use steps::{Moved, Place, Swept};
-pub use taker::Taker;
+pub use taker::{OwnTaker, Taker, Takers};
 
 /// How many clients a floor lets in at most.
 pub const MOST_CLIENTS: u64 = 262_144;

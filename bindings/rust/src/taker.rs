@@ -1,7 +1,8 @@
 //! A taker: a thread's own part of a floor whose names are only taken.
 use crate::raw::RawTaker;
-use crate::{Error, Kind};
+use crate::{Error, Kind, Slot, Slots};
 use std::fmt;
+use std::sync::{Arc, Mutex};
 
 /// A thread's own part of a floor whose names are only taken. Such a floor knows no clients and keeps no list: nobody can
 /// ask who has which name, and it has no end, since it has 2^62 names.
@@ -101,6 +102,93 @@ impl Taker {
     #[must_use]
     pub fn entered(&self) -> u64 {
         self.raw.entered()
+    }
+}
+
+/// Takers of one floor for whichever thread asks, without a lock.
+///
+/// ```
+/// use renamer::{Error, Kind, OwnTaker, Takers};
+/// use std::cell::RefCell;
+///
+/// thread_local!(static OWN: RefCell<Option<OwnTaker>> = const { RefCell::new(None) });
+///
+/// let takers = Takers::open(Kind::Tree, 2, 4)?;
+/// let take = || OWN.with_borrow_mut(|own| takers.for_this_thread(own)?.take(0));
+/// std::thread::scope(|scope| scope.spawn(|| (0..30).try_for_each(|_| take().map(drop))).join().unwrap())?;
+/// assert_eq!(take(), Ok(30));
+/// # Ok::<(), Error>(())
+/// ```
+pub struct Takers {
+    slots: Slots,
+    places: Arc<[TakerPlace]>,
+}
+
+/// Where a taker waits for who has the slot of the same number. No other locks it, so nobody waits for that.
+type TakerPlace = Mutex<Option<Taker>>;
+
+/// A taker that a thread has of [`Takers`], which another thread can have once this is dropped.
+pub struct OwnTaker {
+    taker: Option<Taker>,
+    places: Arc<[TakerPlace]>,
+    // It is dropped last.
+    slot: Slot,
+}
+
+impl Takers {
+    /// Opens a floor with so many takers, at most [`MOST_CLIENTS`](crate::MOST_CLIENTS): as many as threads may run at
+    /// once.
+    ///
+    /// # Errors
+    /// [`Error::Quota`], [`Error::Width`], [`Error::Memory`]: the first that stands.
+    ///
+    /// # Panics
+    /// If the archive that is linked has another version than the crate.
+    pub fn open(kind: Kind, width: u32, count: u64) -> Result<Takers, Error> {
+        let slots = Slots::open(count)?;
+        let mut first = Taker::open(kind, width)?;
+        let places = (0..count).map(|_| first.split().map(|taker| Mutex::new(Some(taker))));
+        Ok(Takers { slots, places: places.collect::<Result<_, Error>>()? })
+    }
+
+    /// Gives `own` a taker, and returns it: the one that `own` has, or else one that is free. Keep `own` in a
+    /// `thread_local!`, and the taker is free again as its thread ends.
+    ///
+    /// # Errors
+    /// [`Error::NothingBack`] if at one moment of the call none was free.
+    pub fn for_this_thread<'own>(&self, own: &'own mut Option<OwnTaker>) -> Result<&'own mut Taker, Error> {
+        let own = match own {
+            Some(own) => own,
+            None => own.insert(self.take()?),
+        };
+        Ok(own.taker.as_mut().expect("it goes only as its owner is dropped"))
+    }
+
+    /// A taker that is free.
+    fn take(&self) -> Result<OwnTaker, Error> {
+        let slot = self.slots.take()?;
+        let taker = self.places[slot.number()].try_lock().expect("a slot has one owner").take();
+        Ok(OwnTaker { taker, places: Arc::clone(&self.places), slot })
+    }
+}
+
+impl Drop for OwnTaker {
+    fn drop(&mut self) {
+        if let Ok(mut place) = self.places[self.slot.number()].try_lock() {
+            *place = self.taker.take();
+        }
+    }
+}
+
+impl fmt::Debug for Takers {
+    fn fmt(&self, out: &mut fmt::Formatter<'_>) -> fmt::Result {
+        out.debug_struct("Takers").finish_non_exhaustive()
+    }
+}
+
+impl fmt::Debug for OwnTaker {
+    fn fmt(&self, out: &mut fmt::Formatter<'_>) -> fmt::Result {
+        out.debug_struct("OwnTaker").field("slot", &self.slot).finish_non_exhaustive()
     }
 }
 

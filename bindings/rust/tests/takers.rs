@@ -1,6 +1,7 @@
 //! Threads take names on each network of each width: the names are 0 to k-1, each once. Each cause for which a taker is
 //! refused, and that a refused call changes nothing.
-use renamer::{Error, Kind, Taker};
+use renamer::{Error, Kind, OwnTaker, Taker, Takers, MOST_CLIENTS};
+use std::cell::RefCell;
 use std::thread;
 
 const THREADS: u64 = 4;
@@ -69,4 +70,34 @@ fn a_chain_of_takers_ends() {
     assert_eq!(last.take_many(0, &mut [0; 2]), Err(Error::QuotaSpent));
     assert_eq!((last.take(0), last.take(0)), (Ok(0), Err(Error::QuotaSpent)));
     assert_eq!(chain[0].take(0), Ok(1));
+}
+
+thread_local!(static OWN: RefCell<Option<OwnTaker>> = const { RefCell::new(None) });
+
+/// More threads than takers come and go: each has a taker until it ends, and is refused if all are taken.
+#[test]
+fn threads_get_takers_by_a_pool_that_they_share() {
+    const TURNS: u64 = 50;
+    let takers = Takers::open(Kind::Bitonic, 4, THREADS).unwrap();
+    let take = |entry| OWN.with_borrow_mut(|own| takers.for_this_thread(own)?.take(entry));
+    let mut names = Vec::new();
+    for _ in 0..TURNS {
+        thread::scope(|scope| {
+            let take = &take;
+            let threads: Vec<_> =
+                (0..THREADS).map(|entry| scope.spawn(move || [take(entry).unwrap(), take(0).unwrap()])).collect();
+            names.extend(threads.into_iter().flat_map(|thread| thread.join().unwrap()));
+        });
+    }
+    names.sort_unstable();
+    assert!(names.into_iter().eq(0..2 * THREADS * TURNS));
+    let mut all: Vec<Option<OwnTaker>> = (0..THREADS).map(|_| None).collect();
+    assert!(all.iter_mut().all(|own| takers.for_this_thread(own).is_ok()));
+    assert_eq!(take(0), Err(Error::NothingBack));
+    all.pop();
+    assert_eq!(take(0), Ok(2 * THREADS * TURNS));
+    drop(takers);
+    assert!(all[0].is_some() && OWN.take().is_some());
+    assert_eq!(Takers::open(Kind::Tree, 3, 1).err(), Some(Error::Width));
+    assert_eq!(Takers::open(Kind::Tree, 2, MOST_CLIENTS + 1).err(), Some(Error::Quota));
 }

@@ -25,16 +25,23 @@ abbrev pub IsNoRow : ℕ → Unread → Type 0
 IsNoRow at s = (s.at ≡ at) × ((s.word % 4 ≢ 1) ⊎ ((1073741823 ≤ s.word / 4) ⊎ ((s.full ≡ true)
     ⊎ (s.looks ≡ MOST_LOOKS))))
 
--- none of the places of this row was counted in this state
-pub record IsEmptyRow (row state : ℕ) (e : EmptyRow) : Type 0 where
+-- none of the places of the rows from this one on, below another, was counted in this state
+pub record IsEmptyRow (row to state : ℕ) (e : EmptyRow) : Type 0 where
   pub is_it : (e.row ≡ row) × (e.state ≡ state)
+  pub rows : (0 < e.rows) × (row + e.rows ≤ to)
   pub none : e.number ≡ 0
 
--- none of the places of a group that begins here was counted in this state
+-- none of so many places from here on was counted in this state
 pub record IsEmptyGroup (first : Spot) (state : ℕ) (e : EmptyGroup) : Type 0 where
   pub begins : (e.first ≡ first) × (e.state ≡ state)
-  pub size : (0 < e.size) × (e.size ≤ 16777216)
+  pub size : (0 < e.size) × (e.size ≤ 8589934592)
   pub none : e.number ≡ 0
+
+-- the same places and so many more at most, of which none was counted
+pub record Grows (more : ℕ) (a b : EmptyGroup) : Type 0 where
+  pub same : (b.first ≡ a.first) × (b.state ≡ a.state)
+  pub size : (a.size ≤ b.size) × (b.size ≤ a.size + more)
+  pub none : b.number ≡ 0
 
 -- a search for this state that begins, after so many
 pub record IsNewSearch (state earlier : ℕ) (s : Search) : Type 0 where

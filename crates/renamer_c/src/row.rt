@@ -13,7 +13,7 @@ use std::sync::atomic::AtomicU64;
 use std::sync::atomic::Ordering::SeqCst;
 
 /// How many places of a group have a lane that is back, and how many are free, and no fewer: a place is counted before
-/// it comes into the state, and until it has left it.
+/// it comes into the state, and until it has left it. A group of 64 has a bit for each place in place of the number.
 #[derive(Drop)]
 pub(crate) struct Counts {
     back: AtomicU64,
@@ -54,6 +54,11 @@ pub(crate) fn group_size(level: u32) -> usize
         3 => 262_144,
         _ => 16_777_216,
     }
+}
+
+/// What a place counts in a group of 64^level: one, or its bit.
+fn part(level: u32, at: usize) -> u64 {
+    if level == 1 { 1 << (at % 64) } else { 1 }
 }
 
 /// How many places a row has at most.
@@ -117,6 +122,23 @@ impl Row {
         self.groups[group].of(state)
     }
 
+    /// How many groups from this one on, within their larger group, have no place in this state; and what they counted.
+    pub(crate) fn uncounted(&self, group: usize, state: u64) -> (usize, u64)
+        requires { group < length self.now.groups.items }
+        ensures { (result.0 ≤ 64) × (result.1 ≡ 0) }
+    {
+        let (mut groups, mut number) = (0, 0);
+        for at in group..self.groups.len().min(group + 64 - group % 64) {
+            let counted = self.count(at, state).load(SeqCst);
+            if counted != 0 {
+                break;
+            }
+            groups += 1;
+            number = counted;
+        }
+        (groups, number)
+    }
+
     /// Counts a place more in this state.
     pub(crate) fn add(&self, at: usize, state: u64)
         requires few { length self.now.places.items ≤ 1099511627776 }
@@ -124,7 +146,7 @@ impl Row {
     {
         for level in 1..LEVELS {
             if let Some(group) = self.group(level, at) {
-                self.count(group, state).fetch_add(1, SeqCst);
+                self.count(group, state).fetch_add(part(level, at), SeqCst);
             }
         }
     }
@@ -136,7 +158,7 @@ impl Row {
     {
         for level in 1..LEVELS {
             if let Some(group) = self.group(level, at) {
-                self.count(group, state).fetch_sub(1, SeqCst);
+                self.count(group, state).fetch_sub(part(level, at), SeqCst);
             }
         }
     }

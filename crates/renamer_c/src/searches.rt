@@ -1,16 +1,15 @@
-//! What a search saw of places. Only this file makes a value of it, each by its load or by one that it takes, and
-//! nothing copies one: so a function that has to return a search that was in vain is not proved unless it looks at each
-//! place, or at a count of it.
+//! What a search saw of places. Only this file makes a value of it, by a load or out of others, and nothing copies one:
+//! so what has to return a search in vain is not proved unless it looks at each place, or at its bit or a count of it.
 
 ghost use Rattle.std.specs.Arc.{arc_value};
 ghost use Rattle.std.specs.Prelude.{◌≡◌, ◌+◌, ◌^◌, ◌<◌, ◌≤◌, IfErr, IfOk, IfSome, length};
-ghost use Rattle.renamer_c.specs.Looking.{IsEmptyGroup, IsEmptyRow, IsNewSearch, IsNoRow, IsNoneBack, IsWhole};
+ghost use Rattle.renamer_c.specs.Looking.{Grows, IsEmptyGroup, IsEmptyRow, IsNewSearch, IsNoRow, IsNoneBack, IsWhole};
 ghost use Rattle.renamer_c.specs.Placing.{IsNotIn};
 
 use crate::floor_with_places::FloorWithPlaces;
 use crate::places::Spot;
 use crate::reading_rows::{ReadRow, Unmade, Unread};
-use crate::row::{LEVELS, group_size};
+use crate::row::{Row, group_size};
 use crate::turns::Unturned;
 use std::sync::atomic::Ordering::SeqCst;
 
@@ -20,15 +19,16 @@ pub(crate) const MOST_SEARCHES: u64 = u64::MAX;
 /// How many lanes one call takes in at most: for centuries.
 pub(crate) const MOST_JOINS: u64 = u64::MAX;
 
-/// How many places of a row were counted in a state: none.
+/// How many places of rows, one after another, were counted in a state: none.
 #[derive(Drop)]
 pub(crate) struct EmptyRow {
     row: usize,
+    rows: usize,
     state: u64,
     number: u64,
 }
 
-/// How many places of a group were counted in a state: none.
+/// How many places of groups, one after another, were counted in a state: none.
 #[derive(Drop)]
 pub(crate) struct EmptyGroup {
     first: Spot,
@@ -38,49 +38,103 @@ pub(crate) struct EmptyGroup {
 }
 
 impl EmptyRow {
-    /// The row, if none was counted there.
-    pub(crate) fn of(floor: &FloorWithPlaces, row: usize, state: u64) -> Option<EmptyRow>
-        requires { row < 26 }
-        ensures { IfSome result (IsEmptyRow row state) }
+    /// The rows from this one on, below another, as far as none was counted there.
+    pub(crate) fn of(floor: &FloorWithPlaces, row: usize, to: usize, state: u64) -> Option<EmptyRow>
+        requires { (row ≤ to) × (to ≤ 26) }
+        ensures { IfSome result (IsEmptyRow row to state) }
     {
-        let number = floor.slot(row).counts.of(state).load(SeqCst);
-        if number == 0 {
-            Some(EmptyRow { row, state, number })
-        } else {
-            None
+        let (mut rows, mut number) = (0, 0);
+        for at in row..to {
+            let counted = floor.slot(at).counts.of(state).load(SeqCst);
+            if counted != 0 {
+                break;
+            }
+            rows += 1;
+            number = counted;
         }
+        let empty = EmptyRow {
+            row,
+            rows,
+            state,
+            number,
+        };
+        if rows == 0 { None } else { Some(empty) }
     }
 }
 
 impl EmptyGroup {
-    /// The largest group that begins at this place, and where none was counted.
+    /// The places from this one on, as far as no group is counted and no bit is there.
     pub(crate) fn of(read: &ReadRow, first: usize, state: u64) -> Option<EmptyGroup>
         requires few { length (arc_value read.now.shared.row).places.items ≤ 1099511627776 }
         requires first { first < length (arc_value read.now.shared.row).places.items }
         ensures { IfSome result (IsEmptyGroup (record { row = read.now.at; place = first }) state) }
     {
         let row = read.row();
-        let mut empty = None;
-        for level in 1..LEVELS {
-            let size = group_size(level);
-            if first % size != 0 {
-                return empty;
-            }
-            let Some(group) = row.group(level, first) else {
-                return empty;
-            };
-            let number = row.count(group, state).load(SeqCst);
-            if number != 0 {
-                return empty;
-            }
-            empty = Some(EmptyGroup {
-                first: read.spot(first),
-                size,
-                state,
-                number,
-            });
+        if row.places.len() <= 64 {
+            return None;
         }
-        empty
+        let none = EmptyGroup {
+            first: read.spot(first),
+            size: 0,
+            state,
+            number: 0,
+        };
+        let groups = none
+            .with_groups(row, 4)
+            .with_groups(row, 3)
+            .with_groups(row, 2);
+        let all = groups.with_groups(row, 1).with_bits(row);
+        if all.size == 0 { None } else { Some(all) }
+    }
+
+    /// The same with the groups of 64^level places that follow, within their larger group, as far as none is counted.
+    fn with_groups(self, row: &Row, level: u32) -> EmptyGroup
+        requires level { (0 < level) × (level < 5) }
+        requires few { length row.now.places.items ≤ 1099511627776 }
+        requires none { (self.number ≡ 0) × (self.first.place + self.size < 2 ^ 62) }
+        ensures { Grows 1073741824 self result }
+    {
+        let (at, size) = (self.first.place + self.size, group_size(level));
+        if at % size != 0 || at >= row.places.len() {
+            return self;
+        }
+        match row.group(level, at) {
+            Some(group) => {
+                let (groups, number) = row.uncounted(group, self.state);
+                EmptyGroup {
+                    size: self.size + groups * size,
+                    number,
+                    ..self
+                }
+            }
+            None => self,
+        }
+    }
+
+    /// The same with the places that follow in a group of 64, as far as they have no bit.
+    fn with_bits(self, row: &Row) -> EmptyGroup
+        requires few { length row.now.places.items ≤ 1099511627776 }
+        requires none { (self.number ≡ 0) × (self.first.place + self.size < 2 ^ 62) }
+        ensures { Grows 64 self result }
+    {
+        let at = self.first.place + self.size;
+        if at >= row.places.len() {
+            return self;
+        }
+        let Some(group) = row.group(1, at) else {
+            return self;
+        };
+        let bits = row.count(group, self.state).load(SeqCst) >> (at % 64);
+        let size = (bits.trailing_zeros() as usize).min(64 - at % 64);
+        let number = if size == 0 { 0 } else { bits << (64 - size) };
+        if number != 0 {
+            return self;
+        }
+        EmptyGroup {
+            size: self.size + size,
+            number,
+            ..self
+        }
     }
 }
 
@@ -88,12 +142,10 @@ impl EmptyGroup {
 #[derive(Drop)]
 pub(crate) struct Search {
     state: u64,
-    /// Where it goes on.
+    /// Where it goes on, and how many places it found.
     on: Spot,
-    /// How many places it found.
     found: u64,
-    /// How many hand-backs had ended when it began, and which rows were not made right after: no lane that was handed
-    /// back by then is there.
+    /// How many hand-backs had ended when it began, and which rows were not made then: no lane of these is there.
     returns: u64,
     unmade: Unmade,
     /// How many searches in vain went before it.
@@ -179,14 +231,15 @@ impl Search {
         self
     }
 
-    /// Passes a row.
-    pub(crate) fn pass_row(self, none: EmptyRow) -> Search
-        requires none { IsEmptyRow self.on.row self.state none }
-        requires few { self.on.row + 1 < 2 ^ 64 }
-        ensures { result ≡ record self { on = record { row = self.on.row + 1; place = 0 } } }
+    /// Passes rows.
+    pub(crate) fn pass_rows(mut self, none: EmptyRow) -> Search
+        requires none { IsEmptyRow self.on.row self.unmade.from self.state none }
+        requires few { self.unmade.from ≤ 26 }
+        ensures { result ≡ record self { on = record { row = self.on.row + none.rows; place = 0 } } }
     {
-        drop(none);
-        self.next_row()
+        self.on.row += none.rows;
+        self.on.place = 0;
+        self
     }
 
     /// Passes a row that cannot be read.

@@ -70,10 +70,15 @@ impl FloorWithPlaces {
         ensures ok { IfOk result (λ r. GoesOn 1 search r.2 × IsWithin r.2) }
         ensures err { IfErr result (λ s. GoesOn 0 search s × (s.on.row ≡ s.unmade.from)) }
     {
-        for at in search.on().row..search.rows() {
-            if let Some(none) = EmptyRow::of(self, at, search.state()) {
-                search = search.pass_row(none);
+        let rows = search.rows();
+        for passed in search.on().row..rows {
+            let at = search.on().row;
+            if let Some(none) = EmptyRow::of(self, at, rows, search.state()) {
+                search = search.pass_rows(none);
                 continue;
+            }
+            if at >= rows {
+                break;
             }
             match read_row(self, at) {
                 Ok(row) => match search_row(&row, &self.floor, search) {
