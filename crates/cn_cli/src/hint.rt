@@ -1,4 +1,7 @@
-//! What a refusal by clap says beside clap's own text.
+//! What a refusal by clap says beside clap's own text, and that a terminal takes no text for a command.
+
+ghost use Rattle.std.specs.Prelude.{IsTrue, ◌↔◌, string_bytes};
+ghost use Rattle.cn_cli.specs.Plain.{IsPlain};
 
 use std::alloc::{AllocError, Global};
 
@@ -101,5 +104,26 @@ pub(crate) fn with_hint(
     match hint_of(alloc, job, &text)? {
         Some(hint) => format!(in alloc; "{text}\n{hint}\n"),
         None => Ok(text),
+    }
+}
+
+/// Whether a terminal shows a text and does no more: no byte of it is a control byte but line feeds.
+fn is_plain(text: &str) -> bool
+    ensures { IsTrue result ↔ IsPlain text.now }
+{
+    let bytes = text.as_bytes();
+    bytes
+        .iter()
+        .all(|&byte| byte == b'\n' || byte >= 32 && byte != 127)
+}
+
+/// The text, of which a terminal takes nothing for a command. One with control bytes, which is never made, is empty.
+pub(crate) fn plain(alloc: Global, text: String) -> String
+    ensures { IsPlain (string_bytes result) }
+{
+    if is_plain(&text) {
+        text
+    } else {
+        String::new(alloc)
     }
 }

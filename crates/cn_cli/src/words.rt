@@ -2,6 +2,7 @@
 
 ghost use Rattle.std.specs.Prelude.{◌≡◌, ◌≢◌, IfErr, IfOk, MatchResult, map, string_bytes};
 ghost use Rattle.clap.specs.Words.{found_of, kind_of, rows_of, subcommand_rows_of};
+ghost use Rattle.cn_cli.specs.Plain.{RefusesPlainly};
 ghost use Rattle.cn_cli.specs.Words.{Asks, AsksNone, IsFaultBy, IsFaultOf, IsJobOf, IsRefusalBy, asked_check};
 ghost use Rattle.cn_cli.specs.Words.{IsRefusalOf, status_of_words};
 ghost use Rattle.cn_cli.specs.declared.choices.ChoiceFault.TheVariants as choice;
@@ -10,7 +11,7 @@ ghost use Rattle.cn_cli.specs.declared.words.WordsFault.TheVariants.{Memory};
 use crate::choices::{ChoiceFault, chosen_net, chosen_options, chosen_width, has_flag};
 use crate::command_line::command;
 use crate::help::HelpTexts;
-use crate::hint::with_hint;
+use crate::hint::{plain, with_hint};
 use crate::options::Options;
 use clap::error::ErrorKind;
 use clap::{ArgMatches, Command};
@@ -159,12 +160,18 @@ fn read_words<'a>(
 ///
 /// # Errors
 /// `WordsFault::Help` for a request for help or for the version; `WordsFault::Refused` for words that clap
-/// does not take, or that name what is not built or is outside its limits; `WordsFault::Memory` if a growth
-/// was refused.
+/// does not take, or that name what is not built or is outside its limits, and its text has no control byte but line
+/// feeds; `WordsFault::Memory` if a growth was refused.
 pub fn parse_words(alloc: Global, words: Vec<String>) -> Result<Job, WordsFault>
     ensures ok { IfOk result (IsJobOf (map string_bytes words.items)) }
     ensures err { IfErr result (IsFaultOf (map string_bytes words.items)) }
+    ensures plain { IfErr result RefusesPlainly }
 {
     let help = HelpTexts::new(alloc)?;
-    read_words(alloc, words.as_slice(), &help)
+    match read_words(alloc, words.as_slice(), &help) {
+        Err(WordsFault::Refused(text)) => Err(WordsFault::Refused(plain(alloc, text))),
+        Err(WordsFault::Help(text)) => Err(WordsFault::Help(text)),
+        Err(WordsFault::Memory) => Err(WordsFault::Memory),
+        Ok(job) => Ok(job),
+    }
 }

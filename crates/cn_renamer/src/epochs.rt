@@ -1,6 +1,6 @@
 //! The epochs of a batch: run one after another, each by many workers, or beside one another, each by one.
 
-ghost use Rattle.std.specs.Prelude.{◌≡◌, ◌+◌, ◌<◌, ◌≤◌, [], ◌∷◌, ℕ, IfOk, false, length, take, true};
+ghost use Rattle.std.specs.Prelude.{◌≡◌, ◌+◌, ◌<◌, ◌≤◌, [], ◌∷◌, ℕ, IfOk, IfSome, false, length, take, true};
 ghost use Rattle.cn_spec.specs.declared.limits.TheConstants.{MOST_CARRIED, MOST_NAMED};
 ghost use Rattle.cn_floor.specs.Carried.{client_count};
 ghost use Rattle.cn_report.specs.Reading.Batch.{MayCome, clients_of_epochs};
@@ -171,44 +171,54 @@ fn run_beside<R: Threads + Wait + Sync>(
     Ok(floors.append(others))
 }
 
-/// Runs epochs, each by one worker, and writes who has which name: beside one another if they carry nothing and several
-/// workers of the crew pay. If several are refused memory, one worker runs all epochs once the threads have ended and
-/// what they held is let go. The receipts are of their floors.
-fn run_apart<R: Threads + Wait + Sync>(
+/// Memory of which one worker runs any of these epochs, with 2 MB more than their grants want.
+fn keep_for_one(alloc: Global, epochs: &[BatchEpoch]) -> Result<Vec<[u64; 4]>, AllocError> {
+    let most = epochs.iter().map(|epoch| epoch.clients.len()).max();
+    Vec::with_capacity(alloc, most.unwrap_or(0).saturating_add(65_536))
+}
+
+/// Runs epochs by several workers, and writes who has which name: at a gate each epoch by all that the options ask for,
+/// else beside one another. Memory for a run by one worker is held meanwhile, so it is there afterwards, whatever the
+/// stacks of threads and what the C library keeps for threads may still hold. `None` if no more than one worker pays,
+/// or they are refused memory. The receipts are of their floors.
+fn run_by_several<G: Gate + Sync, R: Threads + Wait + Sync>(
     rt: &R,
     alloc: Global,
     network: &Counting,
-    carries: bool,
+    options: &Options,
     epochs: &[BatchEpoch],
-    crew: Crew,
+    gate: Option<&G>,
     holders: &mut [u64],
-) -> Result<Receipts, AllocError>
+) -> Option<Receipts>
     requires epochs { MayRunAll network.now.table.entries epochs.now (length holders.old) }
-    requires crew { IsCrew crew }
-    ensures { IfOk result (λ floors.
-        HaveWalked (of_one_worker crew) (new_runner carries network.now) epochs.now floors holders.new) }
+    ensures { IfSome result (λ floors. HaveWalked (crew_of gate.entry options.now)
+        (new_runner options.now.carry network.now) epochs.now floors holders.new) }
 {
-    if !carries && workers_that_pay(crew.workers, epochs.len(), holders.len()) > 1 {
-        if let Ok(receipts) = run_beside(rt, alloc, network, epochs, crew, holders) {
-            return Ok(receipts);
+    let (workers, carries) = (options.workers(), options.carries());
+    let crew = Crew {
+        first: 0,
+        workers,
+        hand: options.hand(),
+    };
+    match gate {
+        Some(gate) if workers > 1 => {
+            let _kept = keep_for_one(alloc, epochs).ok()?;
+            let runner = Runner::new(alloc, network, carries).ok()?;
+            run_in_turn(rt, alloc, runner, epochs, crew, gate, holders).ok()
         }
+        None if !carries && workers_that_pay(workers, epochs.len(), holders.len()) > 1 => {
+            let _kept = keep_for_one(alloc, epochs).ok()?;
+            run_beside(rt, alloc, network, epochs, crew, holders).ok()
+        }
+        _ => None,
     }
-    let runner = Runner::new(alloc, network, carries)?;
-    run_in_turn(
-        rt,
-        alloc,
-        runner,
-        epochs,
-        Crew { workers: 1, ..crew },
-        &OpenGate,
-        holders,
-    )
 }
 
 /// Runs the epochs of a batch on a network, as the options say: who has which name, epoch after epoch, each by rising
 /// name; and the receipts of the floors on which they were named. At a gate the epochs run one after another, each by
 /// all workers that the options ask for; without one each is run by one worker, and as many run beside one another as
-/// pay.
+/// pay. If several workers are refused memory, one runs all epochs once the threads have ended and what they held is
+/// let go.
 pub(crate) fn run_epochs<G: Gate + Sync, R: Threads + Wait + Sync>(
     rt: &R,
     alloc: Global,
@@ -223,18 +233,26 @@ pub(crate) fn run_epochs<G: Gate + Sync, R: Threads + Wait + Sync>(
     ensures many { IfOk result (λ r. clients_of_epochs epochs.now ≡ length r.0.items) }
 {
     let mut holders = vec![in alloc; 0; clients_in(epochs)]?;
-    let crew = Crew {
+    if let Some(receipts) = run_by_several(
+        rt,
+        alloc,
+        network,
+        options,
+        epochs,
+        gate,
+        &mut holders,
+    ) {
+        return Ok((holders, receipts));
+    }
+    let runner = Runner::new(alloc, network, options.carries())?;
+    let one = Crew {
         first: 0,
-        workers: options.workers(),
+        workers: 1,
         hand: options.hand(),
     };
-    let carries = options.carries();
     let receipts = match gate {
-        Some(gate) => {
-            let runner = Runner::new(alloc, network, carries)?;
-            run_in_turn(rt, alloc, runner, epochs, crew, gate, &mut holders)?
-        }
-        None => run_apart(rt, alloc, network, carries, epochs, crew, &mut holders)?,
+        Some(gate) => run_in_turn(rt, alloc, runner, epochs, one, gate, &mut holders)?,
+        None => run_in_turn(rt, alloc, runner, epochs, one, &OpenGate, &mut holders)?,
     };
     Ok((holders, receipts))
 }

@@ -50,6 +50,11 @@ AreReady home clients hand (Fork' at p left q right) =
     IsReady home clients hand (together (whole left) (whole right)) × (at ≤ clients)
     × AreReady home at hand left × AreReady home (clients - at) hand right
 
+-- none of them has more free records than n
+abbrev pub SpareAtMost : ℕ → Lanes → Type 0
+SpareAtMost n (One lane worker) = lane.yard.spare ≤ n
+SpareAtMost n (Fork' at p left q right) = SpareAtMost n left × SpareAtMost n right
+
 -- they are the lanes of the workers from `from` up to, not including, `to` of w: a single lane is that of one of them,
 -- who has all their clients; and the clients that are counted for each part are those of its workers among k, and
 -- neither part has none
@@ -73,6 +78,8 @@ pub record IsPair (at : ℕ) (left right lanes : Lanes) : Type 0 where
   pub whole_is : whole lanes ≡ together (whole left) (whole right)
   pub ready : (home : FloorValue) (n hand : ℕ) → IsReady home n hand (together (whole left) (whole right)) → at ≤ n
       → AreReady home at hand left → AreReady home (n - at) hand right → AreReady home n hand lanes
+  -- if none of either part has more free records than n, none of all has
+  pub spared : (n : ℕ) → SpareAtMost n left → SpareAtMost n right → SpareAtMost n lanes
   -- and if the parts are of workers that follow one another, and each has clients, the lanes are of all these
   pub of : (k w from middle to : ℕ) → from < middle → middle < to
       → at ≡ first_position k w middle - first_position k w from

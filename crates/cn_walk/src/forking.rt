@@ -1,8 +1,9 @@
 //! Many workers: their lanes, and the threads that walk them.
 
-ghost use Rattle.std.specs.Prelude.{◌≡◌, ◌+◌, ◌-◌, ◌*◌, ◌/◌, ◌<◌, ◌≤◌, All, IfSome, length};
+ghost use Rattle.std.specs.Prelude.{◌≡◌, ℕ, ◌+◌, ◌-◌, ◌*◌, ◌/◌, ◌<◌, ◌≤◌, All, IfSome, length};
 ghost use Rattle.cn_spec.specs.declared.limits.TheConstants.{MOST_NAMED};
 ghost use Rattle.cn_walk.specs.Parts.{AreOf, AreReady, HasNothing, IsOne, IsPair, MayWalk, first_position, whole};
+ghost use Rattle.cn_walk.specs.Parts.{SpareAtMost};
 ghost use Rattle.cn_walk.specs.Walks.{GrantsInOrder, IsSole, WalksAll};
 ghost use denote.Param.Send.{IsSync};
 
@@ -34,10 +35,10 @@ fn first_position(clients: u32, workers: u32, worker: u32) -> u32
 }
 
 /// Makes the lanes of the crew's workers from `from` up to, not including, `to`, out of one, and reserves their memory:
-/// each has quota and room for its own clients, and records for a hand of them, and of a fork's two parts the first has
-/// room for the grants of both. The second part has about a quarter of the workers, and one at least, so that few
-/// grants are there twice while it is joined to the first. Workers without clients get no lane; if none of these has
-/// clients, the first one has the lane. `None` if memory is refused.
+/// each has quota and room for its own clients, and records for a hand of them, or as many as the one had, and of a
+/// fork's two parts the first has room for the grants of both. The second part has about a quarter of the workers, and
+/// one at least, so that few grants are there twice while it is joined to the first. Workers without clients get no
+/// lane; if none of these has clients, the first one has the lane. `None` if memory is refused.
 pub(crate) fn make_lanes<'a>(
     alloc: Global,
     floor: &Floor<'a>,
@@ -57,6 +58,7 @@ pub(crate) fn make_lanes<'a>(
     ensures workers { IfSome result (λ lanes. AreOf clients crew.workers from to lanes) }
     ensures room { IfSome result (λ lanes. lane.room ≤ (whole lanes).room) }
     ensures spare { IfSome result (λ lanes. lane.yard.spare ≤ (whole lanes).yard.spare) }
+    ensures few { IfSome result (λ lanes. (n : ℕ) → lane.yard.spare ≤ n → crew.hand ≤ n → SpareAtMost n lanes) }
 {
     let first = first_position(clients, crew.workers, from);
     let own = first_position(clients, crew.workers, to) - first;

@@ -1,8 +1,8 @@
-use Rattle.std.proofs.Common.{rules, ◌≡◌, ◌+◌, ◌-◌, ◌/◌, ◌<◌, ◌≤◌, arith, ℕ, min, refl, ap, ◌∙◌, subst}
+use Rattle.std.proofs.Common.{rules, ◌≡◌, ◌+◌, ◌-◌, ◌/◌, ◌<◌, ◌≤◌, arith, ℕ, max, min, refl, ap, ◌∙◌, subst}
 use Rattle.std.specs.Prelude.{IfSome}
 use Rattle.cn_walk.specs.declared.forking.Lanes.{Lanes}
 use Rattle.cn_floor.specs.Lane.{LaneValue}
-use Rattle.cn_walk.specs.Parts.{AreOf, AreReady, IsPair, first_position}
+use Rattle.cn_walk.specs.Parts.{AreOf, AreReady, IsPair, SpareAtMost, first_position}
 use Rattle.cn_walk.proofs.Parts.{first-later, left-nothing, none_after, none_before, pair-ready, reserved-nothing, right-nothing, some_so}
 use Rattle.cn_walk.proofs.forking.+make_lanes.Goals as goal
 use Rattle.cn_walk.proofs.forking.+make_lanes.Goals.{then-own-eq0-via-then-own-eq0, then-own-eq0-via-else-own-eq0+then-to-from-eq1}
@@ -132,6 +132,20 @@ returns-clause-workers t c =
     (λ (lanes : Lanes). AreOf k w c.args.from c.args.to lanes) c.pair.result
     (λ lanes is. is.of k w c.args.from middle c.args.to (omega (arith, c.if-to-from-eq1.false, range))
     (omega (arith, c.if-to-from-eq1.false, range)) part some less c.in_ok-left.ensures.workers c.in_ok-right.ensures.workers)
+    c.pair.ensures
+
+pub returns-clause-few : goal.returns-clause-few
+returns-clause-few t c =
+    let at : ℕ = c.first_position-2.result - c.first_position-first.result in
+    let spare : ℕ = c.args.lane.yard.spare in
+    let hand : ℕ = c.args.crew.hand in
+    let reserved : c.reserve_apart.new.self.yard.spare ≤ max hand spare = search rules in
+    let first = ap (λ (l : LaneValue). l.yard.spare) c.in-Ok-split.ensures.first in
+    let second = ap (λ (l : LaneValue). l.yard.spare) c.in-Ok-split.ensures.second in
+    some_so (λ (lanes : Lanes). IsPair at c.in_ok-left.left c.in_ok-right.right lanes)
+    (λ (lanes : Lanes). (n : ℕ) → spare ≤ n → hand ≤ n → SpareAtMost n lanes) c.pair.result
+    (λ lanes is n old some. is.spared n (c.in_ok-left.ensures.few n (omega (arith, reserved, first, old, some)) some)
+    (c.in_ok-right.ensures.few n (omega (arith, second)) some))
     c.pair.ensures
 
 pub overflow_sub-at : goal.overflow_sub-at
