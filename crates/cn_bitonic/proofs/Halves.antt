@@ -5,7 +5,7 @@ use Rattle.std.proofs.Math.Nat.{pow-succ'}
 use Rattle.cn_spec.specs.Networks.{IsRow, bitonic}
 use Rattle.cn_spec.specs.declared.limits.TheConstants.{MOST_BALANCERS}
 use Rattle.cn_spec.proofs.CallerLemmas.{back-row, front-row, half_pow, half-row, same-level, shorter, times-append}
-use Rattle.cn_wiring.specs.Plan.{Plan, AllLoose}
+use Rattle.cn_tables.specs.Plan.{Plan, AllLoose}
 use Rattle.cn_wiring.proofs.CallerLemmas.{Builds-beside, Builds-loose, Builds-same, Builds-sized, Builds-then}
 use Rattle.cn_bitonic.specs.Order.{bitonic_made, merger_made}
 use Rattle.cn_bitonic.specs.Parts.{BuildsBitonic, BuildsMerger}

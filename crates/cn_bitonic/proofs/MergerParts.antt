@@ -8,7 +8,7 @@ use Rattle.cn_spec.specs.Sums.{times}
 use Rattle.cn_spec.specs.declared.limits.TheConstants.{MOST_BALANCERS}
 use Rattle.cn_spec.proofs.CallerLemmas.{evens-row, map-evens, map-odds, odds-row, same-level, shorter, times-append, times-evens-odds}
 use Rattle.cn_wiring.specs.Made.{with_layer}
-use Rattle.cn_wiring.specs.Plan.{Plan, AllLoose, Builds, IsFlow, next_wire}
+use Rattle.cn_tables.specs.Plan.{Plan, AllLoose, Builds, IsFlow, next_wire}
 use Rattle.cn_wiring.proofs.CallerLemmas.{Builds-beside, Builds-like, Builds-loose, Builds-sized, Builds-then}
 use Rattle.cn_bitonic.specs.Order.{merger_made}
 use Rattle.cn_bitonic.specs.Parts.{BuildsMerger}

@@ -3,8 +3,8 @@ use Rattle.std.proofs.Common.{◌≡◌, ℕ, ◌+◌, ◌*◌, ◌/◌, ◌^◌
 use Rattle.std.proofs.Math.Pow.{pow_mono}
 use Rattle.std.proofs.Math.Nat.{mul-le-mul}
 use Rattle.cn_spec.specs.declared.limits.TheConstants.{MOST_BALANCERS, MOST_LEVEL}
-use Rattle.cn_wiring.specs.Plan.{Plan}
-use Rattle.cn_wiring.specs.Widths.{IsWidthOf}
+use Rattle.cn_tables.specs.Plan.{Plan}
+use Rattle.cn_tables.specs.Widths.{IsWidthOf}
 use Rattle.cn_bitonic.specs.Sizes.{bitonic_balancers, bitonic_depth}
 
 -- the widest network

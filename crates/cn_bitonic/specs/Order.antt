@@ -4,7 +4,7 @@ use Rattle.std.specs.Prelude.{ℕ, zero, suc, ◌^◌, List, take, drop}
 use Rattle.std.specs.List.{range_with_len}
 use Rattle.cn_spec.specs.Networks.{evens, odds}
 use Rattle.cn_wiring.specs.Made.{layer_made}
-use Rattle.cn_wiring.specs.Plan.{Plan, entries_alone}
+use Rattle.cn_tables.specs.Plan.{Plan, entries_alone}
 
 -- the merger of two rows of wires of a level: that of the even wires of x and the odd ones of x2, that of the others,
 -- and the last layer

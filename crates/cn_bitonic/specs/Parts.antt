@@ -3,7 +3,7 @@
 use Rattle.std.specs.Prelude.{◌≡◌, ℕ, ◌+◌, ◌*◌, ◌^◌, List, ◌++◌, map}
 use Rattle.std.specs.List.{range_with_len}
 use Rattle.cn_spec.specs.Networks.{IsRow, bitonic, merge}
-use Rattle.cn_wiring.specs.Plan.{Plan, IsFlow, Builds}
+use Rattle.cn_tables.specs.Plan.{Plan, IsFlow, Builds}
 use Rattle.cn_bitonic.specs.Sizes.{bitonic_balancers, bitonic_depth}
 
 -- the merger of two rows of wires of a level, x and x2, with the outputs y

@@ -2,7 +2,7 @@
 
 ghost use Rattle.std.specs.Prelude.{◌≡◌, ℕ, ◌+◌, ◌*◌, ◌^◌, ◌≤◌, ◌++◌, IfOk};
 ghost use Rattle.cn_spec.specs.Networks.{IsRow, evens, odds};
-ghost use Rattle.cn_wiring.specs.Plan.{AllLoose};
+ghost use Rattle.cn_tables.specs.Plan.{AllLoose};
 ghost use Rattle.cn_bitonic.specs.Order.{merger_made};
 ghost use Rattle.cn_bitonic.specs.Parts.{BuildsMerger};
 

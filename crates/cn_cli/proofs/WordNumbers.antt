@@ -6,7 +6,7 @@ use Rattle.std.proofs.lemmas.Fmt.{decimal_injective, parse-decimal}
 use Rattle.std.proofs.Math.Pow.{pow_mono}
 use Rattle.clap.specs.Words.{Row, Text}
 use Rattle.cn_spec.specs.declared.limits.TheConstants.{MOST_LEVEL}
-use Rattle.cn_wiring.specs.Widths.{IsWidth}
+use Rattle.cn_tables.specs.Widths.{IsWidth}
 use Rattle.cn_cli.specs.Choices.{Gives, GivesNumber}
 
 pub width-fits : (width : ℕ) → IsWidth width → width < 2 ^ 32

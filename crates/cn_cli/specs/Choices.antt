@@ -1,8 +1,8 @@
 -- What the options of a subcommand name.
 use Rattle.std.specs.Prelude.{◌≡◌, ◌<◌, ◌^◌, ℕ, Bool, true, false, List, Some, codes, decimal}
 use Rattle.clap.specs.Words.{Row, Text, first_of}
-use Rattle.cn_wiring.specs.Kinds.{kind_word}
-use Rattle.cn_wiring.specs.Widths.{IsWidth}
+use Rattle.cn_tables.specs.Kinds.{kind_word}
+use Rattle.cn_tables.specs.Widths.{IsWidth}
 use Rattle.cn_nets.specs.Net.{Description}
 use Rattle.cn_cli.specs.Options.{SettingsFit, Settings}
 use Rattle.cn_cli.specs.declared.options.Form.{Form}

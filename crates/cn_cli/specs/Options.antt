@@ -1,7 +1,7 @@
 -- What a run is asked for beside its batch.
 use Rattle.std.specs.Prelude.{ℕ, Bool}
 use Rattle.cn_spec.specs.Workers.{HandFits, WorkersFit}
-use Rattle.cn_wiring.specs.Widths.{IsWidth}
+use Rattle.cn_tables.specs.Widths.{IsWidth}
 use Rattle.cn_nets.specs.Net.{Description}
 use Rattle.cn_cli.specs.declared.options.Form.{Form}
 

@@ -3,7 +3,7 @@ use Rattle.std.specs.Prelude.{◌≡◌, ◌≢◌, ◌⊎◌, ℕ, List, [], �
 use Rattle.clap.specs.Words.{IsAmong, Kinds, Row, Text, fault_of, subcommand_of}
 use Rattle.clap.specs.declared.error.ErrorKind.{ErrorKind}
 use Rattle.clap.specs.declared.error.ErrorKind.TheVariants.{DisplayHelp, DisplayVersion, OutOfMemory}
-use Rattle.cn_wiring.specs.Widths.{IsWidth}
+use Rattle.cn_tables.specs.Widths.{IsWidth}
 use Rattle.cn_cli.specs.Choices.{NamesCheck, NamesNetwork, NamesRun}
 use Rattle.cn_cli.specs.CommandLine.{command_line}
 use Rattle.cn_cli.specs.Options.{SettingsFit}

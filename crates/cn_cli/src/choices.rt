@@ -3,9 +3,9 @@
 ghost use Rattle.std.specs.Prelude.{◌≡◌, ◌≢◌, ◌<◌, ◌^◌, ℕ, IfOk, MatchOption, MatchResult, false};
 ghost use Rattle.std.specs.Prelude.{decimal, option_map};
 ghost use Rattle.clap.specs.Words.{first_of, found_of, rows_of};
-ghost use Rattle.cn_wiring.specs.declared.kind.Kind.{Kind};
-ghost use Rattle.cn_wiring.specs.Kinds.{kind_word};
-ghost use Rattle.cn_wiring.specs.Widths.{IsWidth};
+ghost use Rattle.cn_tables.specs.declared.kind.Kind.{Kind};
+ghost use Rattle.cn_tables.specs.Kinds.{kind_word};
+ghost use Rattle.cn_tables.specs.Widths.{IsWidth};
 ghost use Rattle.cn_cli.specs.Choices.{Flags, GivesNoNumber, GivesNumber, NamesNetwork};
 ghost use Rattle.cn_cli.specs.Choices.{NamesNoNet, NamesNoRun, NamesNoWidth, NamesRun, NamesWidth, form_word};
 ghost use Rattle.cn_cli.specs.Options.{SettingsFit};

@@ -5,7 +5,7 @@ use Rattle.std.proofs.lemmas.Bool.{eqb-true, lt-ltb, ltb-true}
 use Rattle.cn_spec.specs.Sums.{when}
 use Rattle.cn_spec.specs.declared.limits.TheConstants.{MOST_CARRIED}
 use Rattle.cn_spec.proofs.CallerLemmas.{sum-below-zero, total-where-agree}
-use Rattle.cn_wiring.specs.Table.{Stands, is_end, sum_at}
+use Rattle.cn_tables.specs.Table.{Stands, is_end, sum_at}
 use Rattle.cn_ledger.specs.Ledger.{IsSound, Ledger, put}
 use Rattle.cn_core.proofs.HistoryLemmas.{Agrees-after_carry}
 use Rattle.cn_core.proofs.StateLemmas.{given_before, IsState-after_carry}

@@ -7,10 +7,10 @@ pub use Rattle.std.specs.Prelude.{count_by, nat_lt, ◌==◌}
 pub use Rattle.cn_names.specs.declared.standing.Standing.TheVariants.{Walking}
 pub use Rattle.cn_spec.specs.Step.{name_of, share}
 pub use Rattle.cn_spec.specs.Sums.{once_below}
-pub use Rattle.cn_wiring.specs.Network.{Network}
-pub use Rattle.cn_wiring.specs.Table.{end_of}
-pub use Rattle.cn_wiring.specs.declared.end.End.{End}
-pub use Rattle.cn_wiring.specs.declared.end.End.TheVariants.{Balancer, Exit}
+pub use Rattle.cn_tables.specs.Network.{Network}
+pub use Rattle.cn_tables.specs.Table.{end_of}
+pub use Rattle.cn_tables.specs.declared.end.End.{End}
+pub use Rattle.cn_tables.specs.declared.end.End.TheVariants.{Balancer, Exit}
 pub use Rattle.cn_core.specs.History.{AgreesAfter, Carried, carried_by, position_after}
 pub use Rattle.cn_core.specs.InsideClients.{positions, with_position}
 pub use Rattle.cn_core.specs.State.{IsState, State, after_carry, inside_in, past, position_in, position_past, start, state_after_enter, state_after_step}

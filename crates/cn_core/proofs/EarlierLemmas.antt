@@ -3,8 +3,8 @@ use Rattle.std.proofs.Common.{◌≡◌, ℕ, ◌<◌, ◌≤◌, Bool, true, fa
 use Rattle.std.specs.Prelude.{if◌then◌else◌, is_some}
 use Rattle.cn_core.proofs.Common.{Carried, Enter, Event, Exit, IsCore, Network, On, Position, State, Step, after_carry, carried_by, end_of, inside_in, nat_tests, position_after, position_in, share, start, state_after_enter, state_after_step}
 use Rattle.cn_spec.specs.declared.limits.TheConstants.{MOST_CARRIED, MOST_CLIENTS}
-use Rattle.cn_wiring.specs.Network.{IsNetwork}
-use Rattle.cn_wiring.specs.Table.{Table}
+use Rattle.cn_tables.specs.Network.{IsNetwork}
+use Rattle.cn_tables.specs.Table.{Table}
 use Rattle.cn_core.specs.declared.position.Position.TheVariants.{Holds}
 use Rattle.cn_ledger.specs.declared.reply.EnterFault.TheVariants.{NoSuchEntry, AlreadyIn, EpochFull}
 use Rattle.cn_ledger.specs.declared.reply.Reply.TheVariants.{Entered, EnterRefused}

@@ -5,7 +5,7 @@ use Rattle.std.proofs.lemmas.Map.{length-set_value}
 use Rattle.std.proofs.lemmas.List.Sums.{sum_by-cons}
 use Rattle.cn_spec.specs.declared.limits.TheConstants.{MOST_CLIENTS}
 use Rattle.cn_spec.proofs.CallerLemmas.{one_more-at, zero_at}
-use Rattle.cn_wiring.specs.Table.{Table, is_end}
+use Rattle.cn_tables.specs.Table.{Table, is_end}
 use Rattle.cn_core.specs.declared.position.Position.TheVariants.{Holds}
 use Rattle.cn_ledger.specs.declared.reply.EnterFault.TheVariants.{NoSuchEntry, AlreadyIn, EpochFull, Memory}
 use Rattle.cn_ledger.specs.declared.reply.StepFault.TheVariants.{Stranger, HasName}

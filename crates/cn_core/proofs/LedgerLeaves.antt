@@ -4,7 +4,7 @@ use Rattle.cn_core.proofs.Common.{AgreesAfter, Balancer, Carried, End, Event, Ex
 use Rattle.std.proofs.lemmas.Bool.{lt-ltb, le-ltb}
 use Rattle.cn_spec.specs.Sums.{when}
 use Rattle.cn_spec.proofs.CallerLemmas.{exit_of-name_of}
-use Rattle.cn_wiring.specs.Table.{is_end}
+use Rattle.cn_tables.specs.Table.{is_end}
 use Rattle.cn_core.specs.History.{times_passed}
 use Rattle.cn_ledger.specs.Events.{Leaves}
 use Rattle.cn_core.specs.StateLedger.{is_on, holds, given_in_state}

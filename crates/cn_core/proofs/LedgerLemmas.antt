@@ -5,8 +5,8 @@ use Rattle.std.proofs.lemmas.Bool.{lt-ltb, le-ltb}
 use Rattle.cn_spec.specs.Sums.{when}
 use Rattle.cn_spec.specs.declared.limits.TheConstants.{MOST_CLIENTS}
 use Rattle.cn_spec.proofs.CallerLemmas.{zero_at}
-use Rattle.cn_wiring.specs.Table.{Stands}
-use Rattle.cn_wiring.specs.Network.{IsNetwork}
+use Rattle.cn_tables.specs.Table.{Stands}
+use Rattle.cn_tables.specs.Network.{IsNetwork}
 use Rattle.cn_core.specs.History.{ByHistories, moved_past}
 use Rattle.cn_ledger.specs.Ledger.{IsSound}
 use Rattle.cn_ledger.specs.declared.moved.Moved.{Moved}

@@ -3,7 +3,7 @@ use Rattle.std.proofs.Common.{◌≡◌, ℕ, ◌+◌, ◌<◌, Bool, true, fals
 use Rattle.cn_core.proofs.Common.{AgreesAfter, Balancer, Carried, End, Enter, Event, Exit, IsState, On, Position, State, Step, cases_eq, count_by, end_of, name_of, nat_lt, ne_eqb, past, position_after, position_in, position_past, state_after_enter, state_after_step, state_ledger, values_of, with_position, ◌==◌}
 use Rattle.cn_spec.specs.Sums.{when}
 use Rattle.cn_spec.proofs.CallerLemmas.{one_more-at}
-use Rattle.cn_wiring.specs.Table.{is_end}
+use Rattle.cn_tables.specs.Table.{is_end}
 use Rattle.cn_core.specs.History.{steps_before, end_at, is_same_end, times_passed}
 use Rattle.cn_ledger.specs.Events.{Enters, Passes}
 use Rattle.cn_core.specs.StateLedger.{is_on, holds, given_in_state}

@@ -4,8 +4,8 @@ use Rattle.std.specs.Option.{option_map}
 use Rattle.cn_core.proofs.Common.{Balancer, Carried, End, Enter, Event, Exit, Network, On, Position, Step, cases_eq, cases_lt, end_of, eq-eqb, name_of, ne_eqb, position_after, position_past}
 use Rattle.std.proofs.lemmas.List.{get_or_past}
 use Rattle.cn_spec.proofs.CallerLemmas.{exit_of-name_of, name-below}
-use Rattle.cn_wiring.specs.Network.{IsNetwork}
-use Rattle.cn_wiring.specs.Table.{Table}
+use Rattle.cn_tables.specs.Network.{IsNetwork}
+use Rattle.cn_tables.specs.Table.{Table}
 use Rattle.cn_core.specs.declared.position.Position.TheVariants.{Holds}
 use Rattle.cn_core.specs.History.{HasOneHolder, end_at, steps_before}
 use Rattle.cn_core.specs.Tight.{HasShares}

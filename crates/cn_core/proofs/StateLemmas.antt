@@ -7,8 +7,8 @@ use Rattle.std.proofs.lemmas.Map.{length-set_value}
 use Rattle.cn_spec.specs.declared.limits.TheConstants.{MOST_CARRIED, MOST_CLIENTS}
 use Rattle.cn_spec.proofs.CallerLemmas.{name-below, one_more-at, sum-below-change, sum-below-zero, zero_at}
 use Rattle.cn_spec.specs.Sums.{one_more}
-use Rattle.cn_wiring.specs.Table.{Stands, LeadsOn}
-use Rattle.cn_wiring.specs.Network.{IsNetwork}
+use Rattle.cn_tables.specs.Table.{Stands, LeadsOn}
+use Rattle.cn_tables.specs.Network.{IsNetwork}
 use Rattle.cn_core.specs.State.{came_in, times_entered}
 use Rattle.cn_yard.proofs.CallerLemmas.{lookup-push, lookup-set, times-push, times-absent, times-set}
 

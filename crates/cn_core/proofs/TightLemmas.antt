@@ -7,7 +7,7 @@ use Rattle.std.proofs.lemmas.List.Sums.{sum_by-cons}
 use Rattle.cn_spec.specs.Sums.{times}
 use Rattle.cn_spec.proofs.CallerLemmas.{each_below, name-below, name_of-exit_of, sum-below-part, times-cons, times-nil}
 use Rattle.cn_spec.specs.declared.limits.TheConstants.{MOST_ARRIVALS}
-use Rattle.cn_wiring.specs.Table.{Stands}
+use Rattle.cn_tables.specs.Table.{Stands}
 use Rattle.cn_core.specs.declared.position.Position.TheVariants.{Holds}
 use Rattle.cn_core.specs.State.{came_in, name_at, name_in, times_entered, is_inside, is_named}
 use Rattle.cn_ledger.specs.Ledger.{IsQuiescent, Ledger, times_given}

@@ -1,7 +1,7 @@
 -- What the calls of a core answer and leave.
 use Rattle.std.specs.Prelude.{◌≡◌, ℕ, ◌<◌, ◌≤◌, List, [], ◌∷◌, None, Some, length, IsSome}
 use Rattle.cn_spec.specs.declared.limits.TheConstants.{MOST_CLIENTS}
-use Rattle.cn_wiring.specs.Table.{end_of}
+use Rattle.cn_tables.specs.Table.{end_of}
 use Rattle.cn_core.specs.declared.position.Position.TheVariants.{On, Holds}
 use Rattle.cn_ledger.specs.declared.reply.EnterFault.TheVariants.{NoSuchEntry, AlreadyIn, EpochFull, Memory}
 use Rattle.cn_ledger.specs.declared.reply.StepFault.TheVariants.{Stranger, HasName}

@@ -5,10 +5,10 @@ use Rattle.std.specs.Map.{lookup, set_value, values_of}
 use Rattle.cn_spec.specs.Step.{name_of, share}
 use Rattle.cn_spec.specs.Sums.{one_more, sum_below}
 use Rattle.cn_spec.specs.declared.limits.TheConstants.{MOST_CARRIED, MOST_CLIENTS}
-use Rattle.cn_wiring.specs.declared.end.End.{End}
-use Rattle.cn_wiring.specs.declared.end.End.TheVariants.{Balancer, Exit}
-use Rattle.cn_wiring.specs.Table.{Table, output_wire}
-use Rattle.cn_wiring.specs.Network.{Network, IsNetwork}
+use Rattle.cn_tables.specs.declared.end.End.{End}
+use Rattle.cn_tables.specs.declared.end.End.TheVariants.{Balancer, Exit}
+use Rattle.cn_tables.specs.Table.{Table, output_wire}
+use Rattle.cn_tables.specs.Network.{Network, IsNetwork}
 use Rattle.cn_core.specs.declared.position.Position.{Position}
 use Rattle.cn_core.specs.declared.position.Position.TheVariants.{On, Holds}
 

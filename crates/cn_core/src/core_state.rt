@@ -6,15 +6,15 @@ ghost use Rattle.std.specs.Prelude.{◌≡◌, ℕ, ◌+◌, ◌<◌, ◌≤◌,
 ghost use Rattle.cn_spec.specs.declared.limits.TheConstants.{MOST_ARRIVALS, MOST_CARRIED, MOST_CLIENTS};
 ghost use Rattle.cn_spec.specs.Step.{share};
 ghost use Rattle.cn_spec.specs.Sums.{one_more};
-ghost use Rattle.cn_wiring.specs.Table.{sum_at};
-ghost use Rattle.cn_wiring.specs.declared.end.End.TheVariants.{Balancer};
+ghost use Rattle.cn_tables.specs.Table.{sum_at};
+ghost use Rattle.cn_tables.specs.declared.end.End.TheVariants.{Balancer};
 
 use crate::clients::{Clients, Found};
 use cn_balancer::output_of;
 use cn_exit::{Exits, Leave};
 use cn_ledger::{EnterFault, Moved, StepFault};
 use cn_spec::limits::{MOST_ARRIVALS, MOST_CLIENTS};
-use cn_wiring::{Counting, End};
+use cn_tables::{Counting, End};
 use std::alloc::{AllocError, Global};
 use std::hash::RandomState;
 use std::marker::Model;

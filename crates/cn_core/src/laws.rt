@@ -2,7 +2,7 @@
 
 ghost use Rattle.std.specs.Prelude.{◌≡◌, ◌≤◌, List, ◌∷◌, []};
 ghost use Rattle.cn_spec.specs.declared.limits.TheConstants.{MOST_CARRIED};
-ghost use Rattle.cn_wiring.specs.Network.{Network, IsNetwork};
+ghost use Rattle.cn_tables.specs.Network.{Network, IsNetwork};
 ghost use Rattle.cn_ledger.specs.WorkedNetworks.{tree_of_four, two_wide};
 ghost use Rattle.cn_core.specs.History.{AreEpochs, HasOneHolder, IsHistory, answers_to, carried_by, enters_of, inside_of};
 ghost use Rattle.cn_core.specs.declared.event.Event.{Event};

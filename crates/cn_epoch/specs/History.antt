@@ -2,8 +2,8 @@
 -- the earlier epochs since the counts were zero.
 use Rattle.std.specs.Prelude.{◌≡◌, ℕ, ◌+◌, ◌<◌, ◌≤◌, Bool, true, false, List, [], ◌∷◌, Option, None, Some, is_some, length, slice_index}
 use Rattle.std.specs.Option.{option_map}
-use Rattle.cn_wiring.specs.Table.{Table}
-use Rattle.cn_wiring.specs.declared.end.End.TheVariants.{Exit}
+use Rattle.cn_tables.specs.Table.{Table}
+use Rattle.cn_tables.specs.declared.end.End.TheVariants.{Exit}
 use Rattle.cn_core.specs.declared.event.Event.{Event}
 use Rattle.cn_core.specs.declared.event.Event.TheVariants.{Enter as EnterEvent, Step as StepEvent}
 use Rattle.cn_core.specs.declared.position.Position.TheVariants.{Holds}

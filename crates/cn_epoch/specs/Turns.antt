@@ -3,7 +3,7 @@ use Rattle.std.specs.Prelude.{All, ◌≡◌, ◌≢◌, ℕ, ◌+◌, ◌<◌, 
 use Rattle.std.specs.List.{AllZip}
 use Rattle.cn_spec.specs.Step.{share}
 use Rattle.cn_spec.specs.declared.limits.TheConstants.{MOST_CARRIED}
-use Rattle.cn_wiring.specs.Table.{Table}
+use Rattle.cn_tables.specs.Table.{Table}
 use Rattle.cn_core.specs.declared.event.Event.{Event}
 use Rattle.cn_core.specs.History.{Carried, carried_by}
 use Rattle.cn_ledger.specs.declared.answer.Answer.{Answer}

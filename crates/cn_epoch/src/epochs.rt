@@ -18,7 +18,7 @@ ghost use Rattle.cn_epoch.specs.History.{ByEpochHistories, EpochsAgree, next};
 use cn_core::Core;
 use cn_exit::expected;
 use cn_ledger::{Answer, EnterFault, EpochRecord, Moved, StepFault, TurnFault};
-use cn_wiring::Counting;
+use cn_tables::Counting;
 use std::alloc::{AllocError, Global};
 use std::hash::RandomState;
 use std::marker::Model;

@@ -2,7 +2,7 @@
 
 ghost use Rattle.std.specs.Prelude.{ℕ, ◌≤◌, List, Option};
 ghost use Rattle.cn_spec.specs.declared.limits.TheConstants.{MOST_CARRIED};
-ghost use Rattle.cn_wiring.specs.Network.{Network, IsNetwork};
+ghost use Rattle.cn_tables.specs.Network.{Network, IsNetwork};
 ghost use Rattle.cn_core.specs.History.{AreEpochs, IsHistory, carried_by};
 ghost use Rattle.cn_core.specs.declared.event.Event.{Event};
 ghost use Rattle.cn_ledger.specs.declared.command.Command.{Command};

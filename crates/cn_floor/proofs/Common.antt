@@ -13,10 +13,10 @@ pub use Rattle.cn_ledger.specs.Ledger.{IsSound, Ledger}
 pub use Rattle.cn_spec.proofs.CallerLemmas.{sum-below-one, sum-below-part, sum-below-same, sum-below-zero}
 pub use Rattle.cn_spec.specs.Step.{name_of}
 pub use Rattle.cn_spec.specs.Sums.{once_below, sum_below, times, when}
-pub use Rattle.cn_wiring.specs.Network.{Network}
-pub use Rattle.cn_wiring.specs.Table.{IsWellFormed, LeadsOn, Stands, Table, end_of, output_wire}
-pub use Rattle.cn_wiring.specs.declared.end.End.{End}
-pub use Rattle.cn_wiring.specs.declared.end.End.TheVariants.{Balancer, Exit}
+pub use Rattle.cn_tables.specs.Network.{Network}
+pub use Rattle.cn_tables.specs.Table.{IsWellFormed, LeadsOn, Stands, Table, end_of, output_wire}
+pub use Rattle.cn_tables.specs.declared.end.End.{End}
+pub use Rattle.cn_tables.specs.declared.end.End.TheVariants.{Balancer, Exit}
 pub use Rattle.cn_yard.specs.Lists.{IsThere, Lists, Yard, last_on, on, times_in, tokens_in, without}
 pub use Rattle.cn_floor.specs.Alone.{IsAlone}
 pub use Rattle.cn_floor.specs.Carried.{IsClosed, WordsValue}

@@ -1,7 +1,7 @@
 -- The only token of a view, on its way from wire to wire.
 use Rattle.std.specs.Prelude.{◌≡◌, ℕ, ◌%◌, ◌<◌, List, [], ◌∷◌, length}
-use Rattle.cn_wiring.specs.declared.end.End.TheVariants.{Balancer}
-use Rattle.cn_wiring.specs.Table.{end_of, output_wire}
+use Rattle.cn_tables.specs.declared.end.End.TheVariants.{Balancer}
+use Rattle.cn_tables.specs.Table.{end_of, output_wire}
 use Rattle.cn_yard.specs.Lists.{Lists, last_on, on}
 use Rattle.cn_floor.specs.declared.view.Start.{Start}
 use Rattle.cn_floor.specs.declared.view.View.{View}

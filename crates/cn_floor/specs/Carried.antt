@@ -1,7 +1,7 @@
 -- The words of closed floors, with which another floor may begin.
 use Rattle.std.specs.Prelude.{ℕ, ◌+◌, ◌≤◌, List, [], replicate}
 use Rattle.cn_spec.specs.declared.limits.TheConstants.{MOST_TAKEN}
-use Rattle.cn_wiring.specs.Network.{Network, IsNetwork}
+use Rattle.cn_tables.specs.Network.{Network, IsNetwork}
 use Rattle.cn_ledger.specs.Ledger.{Ledger, IsTight}
 use Rattle.cn_floor.specs.declared.view.Start.{Start}
 use Rattle.cn_floor.specs.Rule.{IsCarried, ledger_of}

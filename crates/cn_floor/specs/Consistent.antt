@@ -2,7 +2,7 @@
 use Rattle.std.specs.Prelude.{◌≢◌, ℕ, ◌<◌, ◌≤◌, All, List}
 use Rattle.cn_ledger.specs.Between.{GrantsBetween}
 use Rattle.cn_ledger.specs.Ledger.{IsQuiescent, Ledger}
-use Rattle.cn_wiring.specs.Table.{Table}
+use Rattle.cn_tables.specs.Table.{Table}
 use Rattle.cn_floor.specs.History.{Enter, Event, LeadsTo, Step}
 
 -- Quiescently consistent (Aspnes, Herlihy, Shavit, Counting Networks, JACM 1994; Herlihy, Shavit, The Art of

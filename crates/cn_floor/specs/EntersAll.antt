@@ -1,6 +1,6 @@
 -- Clients of a list come in by one entry in one atomic step.
 use Rattle.std.specs.Prelude.{◌≡◌, ℕ, zero, suc, ◌+◌, List, [], length, slice_index}
-use Rattle.cn_wiring.specs.Table.{Table}
+use Rattle.cn_tables.specs.Table.{Table}
 use Rattle.cn_ledger.specs.Events.{Enters}
 use Rattle.cn_ledger.specs.Ledger.{Ledger}
 use Rattle.cn_floor.specs.declared.view.Start.{Start}

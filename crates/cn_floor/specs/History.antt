@@ -1,8 +1,8 @@
 -- What happened on a floor, event by event.
 use Rattle.std.specs.Prelude.{◌≡◌, ℕ, List, [], ◌∷◌}
-use Rattle.cn_wiring.specs.declared.end.End.{End}
-use Rattle.cn_wiring.specs.declared.end.End.TheVariants.{Balancer, Exit}
-use Rattle.cn_wiring.specs.Table.{Table, end_of}
+use Rattle.cn_tables.specs.declared.end.End.{End}
+use Rattle.cn_tables.specs.declared.end.End.TheVariants.{Balancer, Exit}
+use Rattle.cn_tables.specs.Table.{Table, end_of}
 use Rattle.cn_ledger.specs.Events.{Enters, Leaves, Passes}
 use Rattle.cn_ledger.specs.Ledger.{Ledger}
 

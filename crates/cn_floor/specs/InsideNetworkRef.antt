@@ -1,6 +1,6 @@
 -- What a held network is to contracts: the network, however it is held.
 use Rattle.std.specs.Arc.{arc_value}
-use Rattle.cn_wiring.specs.Network.{Network}
+use Rattle.cn_tables.specs.Network.{Network}
 use Rattle.cn_floor.specs.declared.floor.network_ref.Holding.{Holding}
 use Rattle.cn_floor.specs.declared.floor.network_ref.Holding.TheVariants.{Borrowed, Shared}
 use Rattle.cn_floor.specs.declared.floor.network_ref.NetworkRef.TheInside.{Inside}

@@ -1,10 +1,10 @@
 -- A lane and a floor as contracts see them, and what calls make of a lane.
 use Rattle.std.specs.Prelude.{◌≡◌, ℕ, ◌+◌, ◌-◌, ◌%◌, ◌≤◌, [], Some, length, max, min, replicate}
 use Rattle.atomic_table.specs.Seated.{TableId}
-use Rattle.cn_wiring.specs.declared.end.End.{End}
-use Rattle.cn_wiring.specs.declared.end.End.TheVariants.{Balancer, Exit}
-use Rattle.cn_wiring.specs.Network.{Network}
-use Rattle.cn_wiring.specs.Table.{end_of, output_wire}
+use Rattle.cn_tables.specs.declared.end.End.{End}
+use Rattle.cn_tables.specs.declared.end.End.TheVariants.{Balancer, Exit}
+use Rattle.cn_tables.specs.Network.{Network}
+use Rattle.cn_tables.specs.Table.{end_of, output_wire}
 use Rattle.cn_yard.specs.Lists.{Admits, Lists, Moves, Releases, Yard, empty, standing}
 use Rattle.cn_ledger.specs.declared.moved.Moved.{Moved}
 use Rattle.cn_ledger.specs.Moves.{IsMoveOf}

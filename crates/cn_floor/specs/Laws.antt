@@ -4,10 +4,10 @@ use mathlib.Core.Option.{some}
 use lib.ListN.{get_elem?}
 use Rattle.cn_spec.specs.Step.{share}
 use Rattle.cn_spec.specs.Sums.{once_below, times}
-use Rattle.cn_wiring.specs.declared.end.End.{End}
-use Rattle.cn_wiring.specs.declared.end.End.TheVariants.{Exit}
-use Rattle.cn_wiring.specs.Levels.{IsLevel}
-use Rattle.cn_wiring.specs.Table.{Stands}
+use Rattle.cn_tables.specs.declared.end.End.{End}
+use Rattle.cn_tables.specs.declared.end.End.TheVariants.{Exit}
+use Rattle.cn_tables.specs.Levels.{IsLevel}
+use Rattle.cn_tables.specs.Table.{Stands}
 use Rattle.cn_ledger.specs.Ledger.{Ledger}
 use Rattle.cn_yard.specs.Lists.{tokens_in}
 use Rattle.cn_floor.specs.declared.view.Start.{Start}

@@ -1,7 +1,7 @@
 -- What each kind of atomic step says of the lane's view before and after.
 use Rattle.std.specs.Prelude.{◌≡◌, ℕ, ◌+◌, ◌-◌, ◌≤◌, ◌++◌, ◌∷◌, [], length, sum}
-use Rattle.cn_wiring.specs.declared.end.End.{End}
-use Rattle.cn_wiring.specs.declared.end.End.TheVariants.{Exit}
+use Rattle.cn_tables.specs.declared.end.End.{End}
+use Rattle.cn_tables.specs.declared.end.End.TheVariants.{Exit}
 use Rattle.cn_ledger.specs.Moves.{IsMoveOf}
 use Rattle.cn_ledger.specs.Events.{Enters}
 use Rattle.cn_yard.specs.Lists.{tokens_in}

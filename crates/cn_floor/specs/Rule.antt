@@ -7,10 +7,10 @@ use Rattle.cn_spec.specs.Step.{name_of}
 use Rattle.cn_spec.specs.Sums.{when, times, once_below, sum_below}
 use Rattle.cn_spec.specs.declared.limits.TheConstants.{MOST_CARRIED, MOST_NAMED}
 use Rattle.cn_spec.specs.declared.limits.TheConstants.{MOST_TAKEN}
-use Rattle.cn_wiring.specs.declared.end.End.TheVariants.{Exit}
-use Rattle.cn_wiring.specs.Levels.{IsLevel}
-use Rattle.cn_wiring.specs.Network.{Network, IsNetwork}
-use Rattle.cn_wiring.specs.Table.{Table}
+use Rattle.cn_tables.specs.declared.end.End.TheVariants.{Exit}
+use Rattle.cn_tables.specs.Levels.{IsLevel}
+use Rattle.cn_tables.specs.Network.{Network, IsNetwork}
+use Rattle.cn_tables.specs.Table.{Table}
 use Rattle.cn_ledger.specs.Ledger.{Ledger, IsSound}
 use Rattle.cn_yard.specs.Lists.{on, tokens_in}
 use Rattle.cn_floor.specs.declared.view.Opening.{Opening}

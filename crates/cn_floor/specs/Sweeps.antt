@@ -1,9 +1,9 @@
 -- A sweep: all tokens of a wire go by its end in one atomic step, which is as many events in turn.
 use Rattle.std.specs.Prelude.{◌≡◌, ℕ, ◌+◌, ◌-◌, ◌%◌, ◌<◌, ◌≤◌, List, [], ◌∷◌, length}
 use Rattle.cn_spec.specs.Step.{name_of}
-use Rattle.cn_wiring.specs.declared.end.End.{End}
-use Rattle.cn_wiring.specs.declared.end.End.TheVariants.{Balancer, Exit}
-use Rattle.cn_wiring.specs.Table.{IsWellFormed, Stands, Table, end_of, output_wire}
+use Rattle.cn_tables.specs.declared.end.End.{End}
+use Rattle.cn_tables.specs.declared.end.End.TheVariants.{Balancer, Exit}
+use Rattle.cn_tables.specs.Table.{IsWellFormed, Stands, Table, end_of, output_wire}
 use Rattle.cn_ledger.specs.Ledger.{Ledger}
 use Rattle.cn_yard.specs.Deals.{IsCleared, IsDealt}
 use Rattle.cn_yard.specs.Lists.{Yard, on, times_in}

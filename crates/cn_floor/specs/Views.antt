@@ -3,10 +3,10 @@ use Rattle.std.specs.Prelude.{ℕ, ◌+◌, ◌-◌, ◌*◌, ◌%◌, ◌&&◌,
 use Rattle.std.specs.List.{range_with_len}
 use Rattle.cn_spec.specs.Step.{name_of}
 use Rattle.cn_spec.specs.Sums.{sum_below}
-use Rattle.cn_wiring.specs.declared.end.End.{End}
-use Rattle.cn_wiring.specs.declared.end.End.TheVariants.{Balancer, Exit}
-use Rattle.cn_wiring.specs.declared.kind.Kind.TheVariants.{Tree}
-use Rattle.cn_wiring.specs.Table.{output_wire}
+use Rattle.cn_tables.specs.declared.end.End.{End}
+use Rattle.cn_tables.specs.declared.end.End.TheVariants.{Balancer, Exit}
+use Rattle.cn_tables.specs.declared.kind.Kind.TheVariants.{Tree}
+use Rattle.cn_tables.specs.Table.{output_wire}
 use Rattle.cn_yard.specs.Lists.{last_on, on, without}
 use Rattle.cn_floor.specs.declared.view.Start.{Start}
 use Rattle.cn_floor.specs.declared.view.View.{View}

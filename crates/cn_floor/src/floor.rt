@@ -22,11 +22,11 @@ mod sweeping;
 mod words;
 
 ghost use Rattle.std.specs.Prelude.{◌≡◌};
-ghost use Rattle.cn_wiring.specs.Network.{IsNetwork};
+ghost use Rattle.cn_tables.specs.Network.{IsNetwork};
 
 pub use closed_floor::ClosedFloor;
 pub use closing::CloseFault;
-use cn_wiring::Counting;
+use cn_tables::Counting;
 use counters::Counters;
 pub use lane::{Lane, make_way};
 pub use leftovers::Leftovers;

@@ -2,7 +2,7 @@
 //! it by a call.
 
 ghost use Rattle.std.specs.Prelude.{◌≤◌};
-ghost use Rattle.cn_wiring.specs.Network.{IsNetwork, Network};
+ghost use Rattle.cn_tables.specs.Network.{IsNetwork, Network};
 ghost use Rattle.cn_ledger.specs.Ledger.{IsQuiescent, IsSound, Ledger};
 ghost use Rattle.cn_floor.specs.Consistent.{IsQuiescentlyConsistent, KeepsRealTimeOrder};
 

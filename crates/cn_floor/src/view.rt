@@ -1,7 +1,7 @@
 //! What lanes have done, as the rule of a floor sees it.
 
 use cn_ledger::Client;
-use cn_wiring::Counting;
+use cn_tables::Counting;
 use cn_yard::Token;
 use std::collections::LinkedList;
 use std::snapshot::Snapshot;

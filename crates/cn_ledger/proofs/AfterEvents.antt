@@ -2,10 +2,10 @@
 use Rattle.std.proofs.Common.{◌≡◌, ◌≢◌, ℕ, suc, ◌+◌, ◌≤◌, ◌<◌, ◌&&◌, inl, inr, Bool, true, false, cond, eqb, sym, refl, ap, ◌∙◌, arith, add-zero}
 use Rattle.std.proofs.lemmas.Bool.Decides.{nat_tests}
 use Rattle.std.proofs.lemmas.Bool.{cases_eq, eq-eqb, ne_eqb, eqb-true}
-use Rattle.cn_wiring.specs.declared.end.End.{End}
-use Rattle.cn_wiring.specs.declared.end.End.TheVariants.{Balancer, Exit}
+use Rattle.cn_tables.specs.declared.end.End.{End}
+use Rattle.cn_tables.specs.declared.end.End.TheVariants.{Balancer, Exit}
 use Rattle.cn_spec.specs.Sums.{sum_below, when, once_below}
-use Rattle.cn_wiring.specs.Table.{Table, is_end, sum_at}
+use Rattle.cn_tables.specs.Table.{Table, is_end, sum_at}
 use Rattle.cn_spec.proofs.CallerLemmas.{once-next, sum-below-pick, sum-below-same}
 use Rattle.cn_ledger.specs.Ledger.{Ledger}
 use Rattle.cn_ledger.specs.Events.{Enters, Goes, one_at}

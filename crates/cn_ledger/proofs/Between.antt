@@ -2,7 +2,7 @@
 use Rattle.std.proofs.Common.{◌≡◌, ℕ, ◌/◌, ◌%◌, ◌<◌, ◌≤◌, inl, inr, eqb, cond, refl, ap, arith, Bool, true, false}
 use Rattle.std.proofs.lemmas.Bool.{cases_lt, eq-eqb, eqb-true}
 use Rattle.cn_spec.specs.Sums.{when}
-use Rattle.cn_wiring.specs.Table.{Table}
+use Rattle.cn_tables.specs.Table.{Table}
 use Rattle.cn_ledger.specs.Between.{GrantsBetween}
 use Rattle.cn_ledger.specs.Ledger.{IsTight, Ledger, all_entered}
 

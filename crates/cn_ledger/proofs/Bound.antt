@@ -6,12 +6,12 @@ use Rattle.std.proofs.lemmas.List.FromFn.{sum_by-map-range_with_len_more, get_or
 use Rattle.std.specs.List.{range_with_len, sum}
 use Rattle.cn_spec.specs.Step.{half, share, shares, name_of}
 use Rattle.cn_spec.proofs.CallerLemmas.{exit_of-name_of, get-or-shares, half-mono, name-below, name_of-exit_of, row_is-shares, sum-below-same, total-where-agree, total-where-mono, total-where-zero}
-use Rattle.cn_wiring.specs.declared.end.End.{End}
-use Rattle.cn_wiring.specs.declared.end.End.TheVariants.{Balancer, Exit}
+use Rattle.cn_tables.specs.declared.end.End.{End}
+use Rattle.cn_tables.specs.declared.end.End.TheVariants.{Balancer, Exit}
 use Rattle.cn_spec.specs.Sums.{when, sum_below, Agree, once_below}
-use Rattle.cn_wiring.specs.Table.{Table, is_end, sum_at, Stands, IsWellFormed, IsFullFlow}
-use Rattle.cn_wiring.specs.Network.{Counts}
-use Rattle.cn_wiring.proofs.CallerLemmas.{full-flow-exists, full-flow-sum, full-flow-unique, older}
+use Rattle.cn_tables.specs.Table.{Table, is_end, sum_at, Stands, IsWellFormed, IsFullFlow}
+use Rattle.cn_tables.specs.Network.{Counts}
+use Rattle.cn_tables.proofs.CallerLemmas.{full-flow-exists, full-flow-sum, full-flow-unique, older}
 use Rattle.cn_ledger.specs.Ledger.{Ledger, put, IsSound, all_entered, IsQuiescent, IsBounded, IsTight, times_given}
 
 pub put-entry : (t : Table) (l : Ledger) (u : ℕ) → u < t.entries → put t l u ≡ l.entered u

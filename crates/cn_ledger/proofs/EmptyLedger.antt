@@ -3,9 +3,9 @@ use Rattle.std.proofs.Common.{◌≡◌, ℕ, ◌-◌, ◌/◌, inl, inr, cond, 
 use Rattle.std.proofs.lemmas.Bool.{cases_lt, lt-ltb, le-ltb}
 use Rattle.cn_spec.specs.Step.{name_of}
 use Rattle.cn_spec.proofs.CallerLemmas.{sum-below-zero, total-where-agree, total-where-zero}
-use Rattle.cn_wiring.specs.declared.end.End.{End}
-use Rattle.cn_wiring.specs.declared.end.End.TheVariants.{Balancer, Exit}
-use Rattle.cn_wiring.specs.Table.{Table, is_end}
+use Rattle.cn_tables.specs.declared.end.End.{End}
+use Rattle.cn_tables.specs.declared.end.End.TheVariants.{Balancer, Exit}
+use Rattle.cn_tables.specs.Table.{Table, is_end}
 use Rattle.cn_ledger.specs.Ledger.{Ledger, IsSound, put, empty_ledger}
 
 -- nothing came in, went by, stands there or was given

@@ -2,12 +2,12 @@
 use Rattle.std.proofs.Common.{◌≡◌, ℕ, ◌%◌, ◌≤◌, ◌<◌, ◌&&◌, inl, inr, true, cond, eqb, sym, refl, ap, ◌∙◌, arith, subst}
 use Rattle.std.proofs.lemmas.Bool.{cases_lt, eq-eqb, ne_eqb, eqb-true}
 use Rattle.cn_spec.specs.Step.{name_of}
-use Rattle.cn_wiring.specs.declared.end.End.{End}
-use Rattle.cn_wiring.specs.declared.end.End.TheVariants.{Balancer, Exit}
+use Rattle.cn_tables.specs.declared.end.End.{End}
+use Rattle.cn_tables.specs.declared.end.End.TheVariants.{Balancer, Exit}
 use Rattle.cn_spec.specs.Sums.{once_below}
-use Rattle.cn_wiring.specs.Table.{Table, IsWellFormed, Stands, is_end, end_of, output_wire}
+use Rattle.cn_tables.specs.Table.{Table, IsWellFormed, Stands, is_end, end_of, output_wire}
 use Rattle.cn_spec.proofs.CallerLemmas.{total-where-zero}
-use Rattle.cn_wiring.proofs.CallerLemmas.{older}
+use Rattle.cn_tables.proofs.CallerLemmas.{older}
 use Rattle.cn_ledger.specs.Ledger.{Ledger, IsSound, put}
 use Rattle.cn_ledger.specs.Events.{Enters, Goes, Passes, Leaves, one_at}
 use Rattle.cn_ledger.proofs.PutOnWires.{balanced-after, put-enter, put-leave, put-pass}

@@ -6,10 +6,10 @@ use Rattle.std.proofs.lemmas.Nat.{mod_below}
 use Rattle.cn_spec.specs.Step.{name_of, share}
 use Rattle.cn_spec.specs.Sums.{once_below, sum_below, when}
 use Rattle.cn_spec.proofs.CallerLemmas.{exit_of-name_of, name-below, name_of-exit_of, sum-below-part, sum-below-pick, sum-below-plus, sum-below-same, sum-below-zero}
-use Rattle.cn_wiring.specs.declared.end.End.TheVariants.{Exit}
-use Rattle.cn_wiring.specs.Network.{Counts}
-use Rattle.cn_wiring.specs.Table.{IsWellFormed, Table, sum_at}
-use Rattle.cn_wiring.proofs.CallerLemmas.{full-flow-exists, full-flow-sum}
+use Rattle.cn_tables.specs.declared.end.End.TheVariants.{Exit}
+use Rattle.cn_tables.specs.Network.{Counts}
+use Rattle.cn_tables.specs.Table.{IsWellFormed, Table, sum_at}
+use Rattle.cn_tables.proofs.CallerLemmas.{full-flow-exists, full-flow-sum}
 use Rattle.cn_ledger.specs.Gaps.{IsNearShares, IsSmooth, names_missing}
 use Rattle.cn_ledger.specs.Laws.{all_inside}
 use Rattle.cn_ledger.specs.Ledger.{IsSound, Ledger, all_entered, times_given}

@@ -3,10 +3,10 @@ use Rattle.std.proofs.Common.{◌≡◌, ℕ, zero, suc, ◌+◌, ◌*◌, ◌�
 use Rattle.cn_spec.specs.Step.{half}
 use Rattle.cn_spec.specs.Sums.{sum_below}
 use Rattle.cn_spec.proofs.CallerLemmas.{half-sum, sum-below-plus, sum-below-same}
-use Rattle.cn_wiring.specs.declared.end.End.{End}
-use Rattle.cn_wiring.specs.declared.end.End.TheVariants.{Balancer, Exit}
-use Rattle.cn_wiring.specs.Table.{Table, IsWellFormed, Stands, sum_at}
-use Rattle.cn_wiring.proofs.CallerLemmas.{count-twice, full-flow-exists, full-flow-few}
+use Rattle.cn_tables.specs.declared.end.End.{End}
+use Rattle.cn_tables.specs.declared.end.End.TheVariants.{Balancer, Exit}
+use Rattle.cn_tables.specs.Table.{Table, IsWellFormed, Stands, sum_at}
+use Rattle.cn_tables.proofs.CallerLemmas.{count-twice, full-flow-exists, full-flow-few}
 use Rattle.cn_ledger.specs.Ledger.{Ledger, IsSound, all_entered, put}
 use Rattle.cn_ledger.proofs.Bound.{count-at_most, put-entry, put-output}
 

@@ -3,10 +3,10 @@ use Rattle.std.proofs.Common.{◌≡◌, ℕ, zero, suc, ◌+◌, ◌-◌, ◌*�
 use Rattle.std.proofs.lemmas.Bool.Decides.{nat_tests}
 use Rattle.std.proofs.lemmas.Bool.{cases_eq, cases_lt, lt-ltb, le-ltb, eq-eqb, ne_eqb}
 use Rattle.cn_spec.specs.Step.{half}
-use Rattle.cn_wiring.specs.declared.end.End.{End}
-use Rattle.cn_wiring.specs.declared.end.End.TheVariants.{Balancer}
+use Rattle.cn_tables.specs.declared.end.End.{End}
+use Rattle.cn_tables.specs.declared.end.End.TheVariants.{Balancer}
 use Rattle.cn_spec.specs.Sums.{when, total_where}
-use Rattle.cn_wiring.specs.Table.{Table, is_end, sum_at, output_wire}
+use Rattle.cn_tables.specs.Table.{Table, is_end, sum_at, output_wire}
 use Rattle.cn_spec.proofs.CallerLemmas.{total-where-agree, total-where-shift, total-where-zero}
 use Rattle.cn_ledger.specs.Ledger.{Ledger, put}
 use Rattle.cn_ledger.specs.Events.{Enters, Passes, Leaves, one_at}

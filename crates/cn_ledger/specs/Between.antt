@@ -1,7 +1,7 @@
 -- What is granted from one moment to a later one.
 use Rattle.std.specs.Prelude.{◌≡◌, ℕ, ◌+◌, ◌/◌, ◌%◌, ◌<◌, ◌≤◌, ◌==◌}
 use Rattle.cn_spec.specs.Sums.{when}
-use Rattle.cn_wiring.specs.Table.{Table}
+use Rattle.cn_tables.specs.Table.{Table}
 use Rattle.cn_ledger.specs.Ledger.{Ledger, all_entered}
 
 -- The names that are granted in between are those from the number that had entered to one less than the number that has

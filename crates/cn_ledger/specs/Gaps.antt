@@ -2,8 +2,8 @@
 use Rattle.std.specs.Prelude.{ℕ, ◌+◌, ◌-◌, ◌<◌, ◌≤◌}
 use Rattle.cn_spec.specs.Step.{share}
 use Rattle.cn_spec.specs.Sums.{sum_below}
-use Rattle.cn_wiring.specs.declared.end.End.TheVariants.{Exit}
-use Rattle.cn_wiring.specs.Table.{Table}
+use Rattle.cn_tables.specs.declared.end.End.TheVariants.{Exit}
+use Rattle.cn_tables.specs.Table.{Table}
 use Rattle.cn_ledger.specs.Laws.{all_inside}
 use Rattle.cn_ledger.specs.Ledger.{Ledger, all_entered, times_given}
 

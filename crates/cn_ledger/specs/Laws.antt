@@ -1,10 +1,10 @@
 -- What the laws of ledgers say.
 use Rattle.std.specs.Prelude.{◌≡◌, ℕ, ◌+◌, ◌<◌, ◌≤◌, length}
 use Rattle.cn_spec.specs.Sums.{sum_below}
-use Rattle.cn_wiring.specs.declared.end.End.{End}
-use Rattle.cn_wiring.specs.declared.end.End.TheVariants.{Exit}
-use Rattle.cn_wiring.specs.Network.{Network, IsNetwork}
-use Rattle.cn_wiring.specs.Table.{Stands, Table, end_of}
+use Rattle.cn_tables.specs.declared.end.End.{End}
+use Rattle.cn_tables.specs.declared.end.End.TheVariants.{Exit}
+use Rattle.cn_tables.specs.Network.{Network, IsNetwork}
+use Rattle.cn_tables.specs.Table.{Stands, Table, end_of}
 use Rattle.cn_ledger.specs.Ledger.{Ledger, IsSound, all_entered}
 
 -- each sound ledger of a counting network has this property

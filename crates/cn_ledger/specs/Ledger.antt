@@ -4,9 +4,9 @@
 use Rattle.std.specs.Prelude.{◌≡◌, ◌≢◌, ℕ, ◌+◌, ◌-◌, ◌/◌, ◌%◌, ◌<◌, ◌≤◌, ◌==◌, cond, nat_lt, length}
 use Rattle.cn_spec.specs.Step.{half, share, name_of}
 use Rattle.cn_spec.specs.Sums.{when, sum_below, Agree, once_below}
-use Rattle.cn_wiring.specs.declared.end.End.{End}
-use Rattle.cn_wiring.specs.declared.end.End.TheVariants.{Balancer, Exit}
-use Rattle.cn_wiring.specs.Table.{Table, Stands, IsFullFlow, sum_at}
+use Rattle.cn_tables.specs.declared.end.End.{End}
+use Rattle.cn_tables.specs.declared.end.End.TheVariants.{Balancer, Exit}
+use Rattle.cn_tables.specs.Table.{Table, Stands, IsFullFlow, sum_at}
 
 -- what has come in, gone by, left and been given at some moment
 pub record Ledger : Type 0 where

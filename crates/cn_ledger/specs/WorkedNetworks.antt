@@ -1,7 +1,7 @@
 -- Small networks, for worked ledgers and histories.
 use Rattle.std.specs.Prelude.{[], ◌∷◌}
-use Rattle.cn_wiring.specs.declared.end.End.TheVariants.{Balancer, Exit}
-use Rattle.cn_wiring.specs.Table.{Table}
+use Rattle.cn_tables.specs.declared.end.End.TheVariants.{Balancer, Exit}
+use Rattle.cn_tables.specs.Table.{Table}
 
 -- two entries, one balancer, two exits
 abbrev pub two_wide : Table

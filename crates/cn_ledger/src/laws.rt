@@ -2,9 +2,9 @@
 
 ghost use Rattle.std.specs.Prelude.{◌≡◌, ℕ, ◌+◌, ◌<◌, ◌≤◌, List, map};
 ghost use Rattle.cn_spec.specs.Step.{IsEachBelow};
-ghost use Rattle.cn_wiring.specs.Network.{Network, IsNetwork};
-ghost use Rattle.cn_wiring.specs.Table.{Table};
-ghost use Rattle.cn_wiring.specs.declared.end.End.TheVariants.{Balancer, Exit};
+ghost use Rattle.cn_tables.specs.Network.{Network, IsNetwork};
+ghost use Rattle.cn_tables.specs.Table.{Table};
+ghost use Rattle.cn_tables.specs.declared.end.End.TheVariants.{Balancer, Exit};
 ghost use Rattle.cn_ledger.specs.Events.{Enters, Passes, Leaves, one_at};
 ghost use Rattle.cn_ledger.specs.Grants.{Grant, ListsGrants};
 ghost use Rattle.cn_ledger.specs.Between.{GrantsBetween};

@@ -6,10 +6,10 @@ pub use Rattle.std.proofs.lemmas.List.Sums.{sum_by-append, sum_by-cons}
 pub use Rattle.cn_spec.proofs.CallerLemmas.{sum-below-one, sum-below-part, sum-below-same}
 pub use Rattle.cn_spec.specs.Step.{name_of}
 pub use Rattle.cn_spec.specs.Sums.{when}
-pub use Rattle.cn_wiring.specs.Network.{Network}
-pub use Rattle.cn_wiring.specs.Table.{IsWellFormed, LeadsOn, Stands, Table, end_of, output_wire}
-pub use Rattle.cn_wiring.specs.declared.end.End.{End}
-pub use Rattle.cn_wiring.specs.declared.end.End.TheVariants.{Balancer, Exit}
+pub use Rattle.cn_tables.specs.Network.{Network}
+pub use Rattle.cn_tables.specs.Table.{IsWellFormed, LeadsOn, Stands, Table, end_of, output_wire}
+pub use Rattle.cn_tables.specs.declared.end.End.{End}
+pub use Rattle.cn_tables.specs.declared.end.End.TheVariants.{Balancer, Exit}
 pub use Rattle.cn_yard.specs.Lists.{Lists, last_on, on, times_in, tokens_in, without}
 pub use Rattle.cn_floor.specs.InsideLane.{lane_of}
 pub use Rattle.cn_floor.specs.Lane.{FloorValue, LaneValue}

@@ -10,7 +10,7 @@ ghost use Rattle.cn_floor.specs.declared.view.Grant.{Grant};
 
 use cn_balancer::output_of;
 use cn_floor::{Floor, Seat, View};
-use cn_wiring::{Counting, End};
+use cn_tables::{Counting, End};
 
 /// Which tokens stand on one wire. Of those who leave, notes of type `N` are taken.
 pub(crate) trait Party<N>: Copy {

@@ -1,7 +1,7 @@
 -- A kind and a width have one network.
 use Rattle.std.proofs.Common.{◌≡◌, sym, ◌∙◌, subst}
 use Rattle.cn_wiring.specs.Made.{IsTableOf}
-use Rattle.cn_wiring.specs.Network.{Network}
+use Rattle.cn_tables.specs.Network.{Network}
 use Rattle.cn_spec.proofs.CallerLemmas.{same-level}
 use Rattle.cn_wiring.proofs.CallerLemmas.{same_table}
 use Rattle.cn_nets.specs.Net.{Description, IsNetworkOf, levels_of, plan_of_kind}

@@ -1,11 +1,11 @@
 -- A network by its kind and width.
 use Rattle.std.specs.Prelude.{ℕ, ◌≡◌, ◌-◌, ◌^◌, List}
-use Rattle.cn_wiring.specs.declared.kind.Kind.{Kind}
-use Rattle.cn_wiring.specs.declared.kind.Kind.TheVariants.{Bitonic, Periodic, Tree}
+use Rattle.cn_tables.specs.declared.kind.Kind.{Kind}
+use Rattle.cn_tables.specs.declared.kind.Kind.TheVariants.{Bitonic, Periodic, Tree}
 use Rattle.cn_wiring.specs.Built.{IsBuilt}
 use Rattle.cn_wiring.specs.Made.{IsTableOf}
-use Rattle.cn_wiring.specs.Network.{Network}
-use Rattle.cn_wiring.specs.Plan.{Plan}
+use Rattle.cn_tables.specs.Network.{Network}
+use Rattle.cn_tables.specs.Plan.{Plan}
 use Rattle.cn_bitonic.specs.Order.{bitonic_plan}
 use Rattle.cn_bitonic.specs.Sizes as bitonic
 use Rattle.cn_periodic.specs.Order.{periodic_plan}

@@ -2,7 +2,7 @@
 //! a call.
 
 ghost use Rattle.std.specs.Prelude.{◌≡◌};
-ghost use Rattle.cn_wiring.specs.Network.{Network};
+ghost use Rattle.cn_tables.specs.Network.{Network};
 ghost use Rattle.cn_nets.specs.Net.{Description, IsNetworkOf};
 
 /// A kind and a width have one network.

@@ -1,7 +1,7 @@
 //! A network that is built, known by its kind and width.
 
 ghost use Rattle.std.specs.Prelude.{◌≡◌, ◌↔◌, IfErr, IfOk, IsErrOf};
-ghost use Rattle.cn_wiring.specs.Widths.{IsWidth};
+ghost use Rattle.cn_tables.specs.Widths.{IsWidth};
 ghost use Rattle.cn_nets.specs.Net.{IsNetworkOf};
 
 use cn_bitonic::bitonic;
@@ -23,7 +23,7 @@ pub struct Net {
 
 impl Model for Net {
     ghost use Rattle.cn_nets.specs.Net.{Description};
-    ghost use Rattle.cn_wiring.specs.Widths.{IsWidth};
+    ghost use Rattle.cn_tables.specs.Widths.{IsWidth};
 
     ghost Value = { Description };
 

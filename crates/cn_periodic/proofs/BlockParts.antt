@@ -8,7 +8,7 @@ use Rattle.cn_spec.specs.Sums.{times}
 use Rattle.cn_spec.specs.declared.limits.TheConstants.{MOST_BALANCERS}
 use Rattle.cn_spec.proofs.CallerLemmas.{a_row, b-row, half_pow, map-a_cochain, map-b_cochain, same-level, shorter, times-append, times-cochains}
 use Rattle.cn_wiring.specs.Made.{layer_made, with_layer}
-use Rattle.cn_wiring.specs.Plan.{Plan, AllLoose, Builds, IsFlow, next_wire}
+use Rattle.cn_tables.specs.Plan.{Plan, AllLoose, Builds, IsFlow, next_wire}
 use Rattle.cn_wiring.proofs.CallerLemmas.{Builds-beside, Builds-like, Builds-loose, Builds-sized, Builds-then}
 use Rattle.cn_periodic.specs.Order.{block_made}
 use Rattle.cn_periodic.specs.Parts.{BuildsBlock}

@@ -3,7 +3,7 @@ use Rattle.std.proofs.Common.{◌≡◌, ℕ, zero, suc, ◌+◌, ◌*◌, ◌<�
 use Rattle.std.proofs.Math.Nat.{mul-le-mul_right}
 use Rattle.cn_spec.specs.Networks.{IsRow, block, blocks, periodic}
 use Rattle.cn_spec.specs.declared.limits.TheConstants.{MOST_BALANCERS}
-use Rattle.cn_wiring.specs.Plan.{Plan, AllLoose, Builds, IsFlow}
+use Rattle.cn_tables.specs.Plan.{Plan, AllLoose, Builds, IsFlow}
 use Rattle.cn_wiring.proofs.CallerLemmas.{Builds-same, Builds-sized, Builds-then}
 use Rattle.cn_periodic.specs.Order.{block_made, series_made}
 use Rattle.cn_periodic.specs.Parts.{BuildsPeriodic}

@@ -4,7 +4,7 @@ use Rattle.std.specs.Prelude.{ℕ, zero, suc, ◌^◌, List}
 use Rattle.std.specs.List.{range_with_len}
 use Rattle.cn_spec.specs.Networks.{a_cochain, b_cochain}
 use Rattle.cn_wiring.specs.Made.{layer_made}
-use Rattle.cn_wiring.specs.Plan.{Plan, entries_alone}
+use Rattle.cn_tables.specs.Plan.{Plan, entries_alone}
 
 -- the block over a row of wires of a level: that over the A-cochain, that over the B-cochain, and the last layer
 unfoldable pub block_made : ℕ → Plan → List ℕ → Plan × List ℕ

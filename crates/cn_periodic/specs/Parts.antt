@@ -3,7 +3,7 @@
 use Rattle.std.specs.Prelude.{◌≡◌, ℕ, ◌+◌, ◌-◌, ◌*◌, ◌/◌, ◌^◌, List, map}
 use Rattle.std.specs.List.{range_with_len}
 use Rattle.cn_spec.specs.Networks.{IsRow, block, periodic}
-use Rattle.cn_wiring.specs.Plan.{Plan, IsFlow, Builds}
+use Rattle.cn_tables.specs.Plan.{Plan, IsFlow, Builds}
 use Rattle.cn_periodic.specs.Sizes.{periodic_balancers, block_balancers, periodic_depth}
 
 -- the block over a row of wires of a level from 1 upward, x, with the outputs y

@@ -2,7 +2,7 @@
 
 ghost use Rattle.std.specs.Prelude.{◌≡◌, ℕ, ◌+◌, ◌≤◌, IfOk};
 ghost use Rattle.cn_spec.specs.Networks.{IsRow, a_cochain, b_cochain};
-ghost use Rattle.cn_wiring.specs.Plan.{AllLoose};
+ghost use Rattle.cn_tables.specs.Plan.{AllLoose};
 ghost use Rattle.cn_periodic.specs.Order.{block_made};
 ghost use Rattle.cn_periodic.specs.Parts.{BuildsBlock};
 ghost use Rattle.cn_periodic.specs.Sizes.{block_balancers};

@@ -1,6 +1,6 @@
 -- What jobs write has one text.
 use Rattle.std.proofs.Common.{◌≡◌, ℕ, List, [], None, ◌++◌, sym, ap, subst, arith, ◌∙◌}
-use Rattle.cn_wiring.specs.Network.{Network, IsNetwork}
+use Rattle.cn_tables.specs.Network.{Network, IsNetwork}
 use Rattle.cn_core.specs.History.{carried_by, enters_of, inside_of}
 use Rattle.cn_ledger.specs.declared.command.Command.{Command}
 use Rattle.cn_epoch.specs.History.{history_by_commands, turns_by}

@@ -2,7 +2,7 @@
 use Rattle.std.proofs.Common.{ℕ, List, [], ◌∷◌, sym, subst, Option, Some, None, inl, inr, nat_le}
 use Rattle.std.specs.Prelude.{Bool, true, false, is_some, if◌then◌else◌}
 use Rattle.cn_spec.specs.declared.limits.TheConstants.{MOST_CLIENTS}
-use Rattle.cn_wiring.specs.Table.{Table}
+use Rattle.cn_tables.specs.Table.{Table}
 use Rattle.cn_core.specs.declared.position.Position.{Position}
 use Rattle.cn_core.specs.declared.position.Position.TheVariants.{On, Holds}
 use Rattle.cn_core.specs.declared.event.Event.{Event}

@@ -7,7 +7,7 @@ use Rattle.std.proofs.lemmas.List.Elements.{All-drop, All-head, All-take, All-we
 use Rattle.std.proofs.lemmas.List.Sums.{sum_by-cons, sum_by-take-drop}
 use Rattle.cn_spec.specs.Sums.{when}
 use Rattle.cn_spec.specs.declared.limits.TheConstants.{MOST_CLIENTS, MOST_NAMED}
-use Rattle.cn_wiring.specs.Network.{Network}
+use Rattle.cn_tables.specs.Network.{Network}
 use Rattle.cn_ledger.specs.declared.client.Client.{Client}
 use Rattle.cn_ledger.specs.declared.record.EpochRecord.{EpochRecord}
 use Rattle.cn_floor.specs.Carried.{zero_words}

@@ -10,7 +10,7 @@ use Rattle.cn_spec.specs.Sums.{times}
 use Rattle.cn_spec.specs.declared.limits.TheConstants.{MOST_ENDS}
 use Rattle.cn_spec.proofs.CallerLemmas.{order-times, times-map, times-order}
 use Rattle.cn_ledger.specs.declared.client.Client.{Client}
-use Rattle.cn_wiring.specs.Network.{Network}
+use Rattle.cn_tables.specs.Network.{Network}
 use Rattle.cn_ledger.specs.declared.record.EpochRecord.{EpochRecord}
 use Rattle.cn_floor.specs.declared.view.Grant.{Grant}
 use Rattle.cn_floor.specs.Carried.{WordsValue, client_count}

@@ -1,7 +1,7 @@
 -- The floors on which the clients of a run walked.
 use Rattle.std.specs.Prelude.{◌≡◌, [], ◌∷◌, Bool, IfSome, List, Option, ⊤, ℕ}
 use Rattle.std.specs.List.{AllZip, flat_map}
-use Rattle.cn_wiring.specs.Network.{Network}
+use Rattle.cn_tables.specs.Network.{Network}
 use Rattle.cn_ledger.specs.declared.record.EpochRecord.{EpochRecord}
 use Rattle.cn_floor.specs.Carried.{words_before, zero_words}
 use Rattle.cn_floor.specs.Ends.{ListsHolders, QuietValue, counts_by_exit}

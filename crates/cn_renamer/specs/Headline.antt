@@ -8,7 +8,7 @@ use Rattle.std.specs.List.{AllZip}
 use Rattle.std.specs.List.Sorted.{IsPermutation}
 use Rattle.cn_spec.specs.Step.{shares, shares_after}
 use Rattle.cn_spec.specs.Sums.{times, when}
-use Rattle.cn_wiring.specs.Network.{Network}
+use Rattle.cn_tables.specs.Network.{Network}
 use Rattle.cn_ledger.specs.declared.record.EpochRecord.{EpochRecord}
 use Rattle.cn_report.specs.Reading.Batch.{IsBatch}
 use Rattle.cn_report.specs.Reading.Bounds.{bounds_of}

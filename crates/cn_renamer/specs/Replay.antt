@@ -1,7 +1,7 @@
 -- The text of a replay, and which fault is given if it is not written.
 use Rattle.std.specs.Prelude.{ℕ, ◌≡◌, ◌≢◌, All, IfSome, List, [], None, Option}
 use Rattle.std.specs.List.{AllZip}
-use Rattle.cn_wiring.specs.Network.{Network}
+use Rattle.cn_tables.specs.Network.{Network}
 use Rattle.cn_core.specs.History.{carried_by, enters_of, inside_of}
 use Rattle.cn_ledger.specs.declared.answer.Answer.{Answer}
 use Rattle.cn_ledger.specs.declared.answer.Answer.TheVariants.{Replied, Turned, TurnRefused}

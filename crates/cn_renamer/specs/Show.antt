@@ -1,6 +1,6 @@
 -- The text that shows a wiring.
 use Rattle.std.specs.Prelude.{ℕ, ◌≡◌, List}
-use Rattle.cn_wiring.specs.Network.{Network}
+use Rattle.cn_tables.specs.Network.{Network}
 use Rattle.cn_report.specs.Writing.Wiring.{wiring_text}
 use Rattle.cn_nets.specs.Net.{Description, IsNetworkOf}
 

@@ -1,7 +1,7 @@
 //! A list of grants, checked.
 
 ghost use Rattle.std.specs.Prelude.{◌≡◌, IfErr, Some, false};
-ghost use Rattle.cn_wiring.specs.Widths.{IsWidth};
+ghost use Rattle.cn_tables.specs.Widths.{IsWidth};
 ghost use Rattle.cn_report.specs.Writing.Written.{HasWritten, written_by};
 ghost use Rattle.cn_renamer.specs.Check.{IsCheckFault, IsCheckOfKnown, IsTightTextOf, fault_of_flaw, fault_of_output, status_of_check, until_check};
 ghost use Rattle.cn_renamer.specs.Lines.{flaw_line};

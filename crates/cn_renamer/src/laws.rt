@@ -2,7 +2,7 @@
 
 ghost use Rattle.std.specs.Prelude.{◌≡◌, ℕ, Bool, List, length, map};
 ghost use Rattle.cn_spec.specs.Step.{counts_after, shares, shares_after};
-ghost use Rattle.cn_wiring.specs.Network.{Network, IsNetwork};
+ghost use Rattle.cn_tables.specs.Network.{Network, IsNetwork};
 ghost use Rattle.cn_ledger.specs.declared.command.Command.{Command};
 ghost use Rattle.cn_ledger.specs.declared.record.EpochRecord.{EpochRecord};
 ghost use Rattle.cn_report.specs.Reading.Batch.{IsBatch};

@@ -14,7 +14,7 @@ use cn_epoch::Epochs;
 use cn_ledger::{Answer, Command, EnterFault, Reply, TurnFault};
 use cn_nets::Net;
 use cn_report::{OpenEpoch, Pieces, ScheduleCause, ScheduleFault, read_schedule, write_replay};
-use cn_wiring::Counting;
+use cn_tables::Counting;
 use std::alloc::Global;
 use std::hash::RandomState;
 use std::io::{Read, Write};

@@ -22,7 +22,7 @@ use cn_report::{
     Batch, BatchEpoch, BatchFault, Bounds, EmitFault, Pieces, read_batch_within, write_grants,
     write_report,
 };
-use cn_wiring::Counting;
+use cn_tables::Counting;
 use std::alloc::Global;
 use std::hash::RandomState;
 use std::io::{Read, Write};

@@ -1,7 +1,7 @@
 //! The caller of the page of cn_cli.
 
 ghost use Rattle.std.specs.Prelude.{IfSome};
-ghost use Rattle.cn_wiring.specs.Widths.{IsWidth};
+ghost use Rattle.cn_tables.specs.Widths.{IsWidth};
 
 use cn_cli::{Job, parse_words};
 use std::alloc::Global;

@@ -5,7 +5,7 @@ use Rattle.cn_spec.specs.Networks.{IsRow, interleave, tree}
 use Rattle.cn_spec.specs.Step.{half}
 use Rattle.cn_spec.specs.declared.limits.TheConstants.{MOST_BALANCERS}
 use Rattle.cn_spec.proofs.CallerLemmas.{length-interleave, map-interleave, power_below, times-append, times-interleave, tree-turn}
-use Rattle.cn_wiring.specs.Plan.{Plan, AllLoose, Builds, IsFlow, next_wire, output, with_balancer}
+use Rattle.cn_tables.specs.Plan.{Plan, AllLoose, Builds, IsFlow, next_wire, output, with_balancer}
 use Rattle.cn_tree.specs.Order.{tree_made}
 use Rattle.cn_wiring.proofs.CallerLemmas.{Builds-beside, Builds-giving, Builds-loose, Builds-loose_with, Builds-sized, Builds-then}
 

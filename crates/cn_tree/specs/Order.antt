@@ -1,7 +1,7 @@
 -- The order in which the balancers of a tree are made (Shavit, Zemach, Diffracting Trees, ACM TOCS 1996, section 2).
 use Rattle.std.specs.Prelude.{ℕ, zero, suc, List, [], ◌∷◌}
 use Rattle.cn_spec.specs.Networks.{interleave}
-use Rattle.cn_wiring.specs.Plan.{Plan, entries_alone, output, with_balancer}
+use Rattle.cn_tables.specs.Plan.{Plan, entries_alone, output, with_balancer}
 
 -- a tree of a level on wire w, in preorder: its root, the tree on the root's output 0, and that on its output 1
 unfoldable pub tree_made : ℕ → Plan → ℕ → Plan × List ℕ

@@ -4,11 +4,11 @@ ghost use Rattle.std.specs.Prelude.{◌≡◌, ℕ, ◌+◌, ◌-◌, ◌^◌, �
 ghost use Rattle.cn_spec.specs.Networks as net;
 ghost use Rattle.cn_spec.specs.Networks.{IsRow};
 ghost use Rattle.cn_wiring.specs.Built.{IsBuilt};
-ghost use Rattle.cn_wiring.specs.Network.{exit_flows};
+ghost use Rattle.cn_tables.specs.Network.{exit_flows};
 ghost use Rattle.cn_wiring.specs.Made.{IsTableOf};
-ghost use Rattle.cn_wiring.specs.Plan.{AllLoose, Builds, IsFlow};
-ghost use Rattle.cn_wiring.specs.Table.{IsFullFlow};
-ghost use Rattle.cn_wiring.specs.Widths.{IsWidth};
+ghost use Rattle.cn_tables.specs.Plan.{AllLoose, Builds, IsFlow};
+ghost use Rattle.cn_tables.specs.Table.{IsFullFlow};
+ghost use Rattle.cn_tables.specs.Widths.{IsWidth};
 ghost use Rattle.cn_tree.specs.Order.{tree_made, tree_plan};
 
 use cn_spec::laws;

@@ -5,9 +5,9 @@ use Rattle.std.proofs.lemmas.Nat.{div-mul-add}
 use Rattle.cn_spec.specs.Step.{IsEachBelow, shares_after}
 use Rattle.cn_spec.specs.Sums.{Agree, times}
 use Rattle.cn_spec.proofs.CallerLemmas.{first-shares}
-use Rattle.cn_wiring.specs.declared.end.End.TheVariants.{Balancer}
-use Rattle.cn_wiring.specs.Network.{Network}
-use Rattle.cn_wiring.specs.Table.{Table, sum_at}
+use Rattle.cn_tables.specs.declared.end.End.TheVariants.{Balancer}
+use Rattle.cn_tables.specs.Network.{Network}
+use Rattle.cn_tables.specs.Table.{Table, sum_at}
 use Rattle.cn_yard.specs.Lists.{Yard, tokens_in}
 use Rattle.cn_ledger.specs.declared.client.Client.{Client}
 use Rattle.cn_floor.specs.declared.view.Grant.{Grant}

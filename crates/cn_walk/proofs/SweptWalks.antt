@@ -3,9 +3,9 @@ use Rattle.std.proofs.Common.{◌≡◌, ℕ, ◌+◌, ◌-◌, ◌*◌, ◌%◌
 use Rattle.std.proofs.lemmas.List.Sums.{sum_by-cons}
 use Rattle.std.proofs.lemmas.Nat.{mod_below}
 use Rattle.cn_spec.specs.Step.{name_of}
-use Rattle.cn_wiring.specs.declared.end.End.{End}
-use Rattle.cn_wiring.specs.declared.end.End.TheVariants.{Balancer, Exit}
-use Rattle.cn_wiring.specs.Table.{IsWellFormed, LeadsOn, Stands, Table, end_of, output_wire}
+use Rattle.cn_tables.specs.declared.end.End.{End}
+use Rattle.cn_tables.specs.declared.end.End.TheVariants.{Balancer, Exit}
+use Rattle.cn_tables.specs.Table.{IsWellFormed, LeadsOn, Stands, Table, end_of, output_wire}
 use Rattle.cn_ledger.specs.declared.client.Client.{Client}
 use Rattle.cn_yard.specs.Lists.{IsThere, on, times_in, tokens_in}
 use Rattle.cn_floor.specs.declared.view.Grant.{Grant}

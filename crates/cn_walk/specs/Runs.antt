@@ -4,10 +4,10 @@ use Rattle.std.specs.List.{range_with_len}
 use Rattle.cn_spec.specs.Step.{IsEachBelow, name_of, shares, shares_after}
 use Rattle.cn_spec.specs.Sums.{times}
 use Rattle.cn_spec.specs.Workers.{HandFits, WorkersFit}
-use Rattle.cn_wiring.specs.declared.end.End.TheVariants.{Balancer}
-use Rattle.cn_wiring.specs.Faults.{IsFirst}
-use Rattle.cn_wiring.specs.Network.{Network}
-use Rattle.cn_wiring.specs.Table.{IsFullFlow, sum_at}
+use Rattle.cn_tables.specs.declared.end.End.TheVariants.{Balancer}
+use Rattle.cn_tables.specs.Faults.{IsFirst}
+use Rattle.cn_tables.specs.Network.{Network}
+use Rattle.cn_tables.specs.Table.{IsFullFlow, sum_at}
 use Rattle.cn_ledger.specs.declared.client.Client.{Client}
 use Rattle.cn_walk.specs.declared.running.RunFault.{RunFault}
 use Rattle.cn_walk.specs.declared.running.RunFault.TheVariants.{Workers, Hand, TooMany, NoSuchEntry, Memory}

@@ -13,7 +13,7 @@ use crate::running::{RunFault, may_run, walk_floor};
 use cn_floor::{Floor, Gate, Lane, Quiet, Words};
 use cn_ledger::Client;
 use cn_spec::limits::MOST_CLIENTS;
-use cn_wiring::Counting;
+use cn_tables::Counting;
 use std::alloc::Global;
 use std::sync::Wait;
 use std::thread::Threads;

@@ -12,7 +12,7 @@ use crate::running::{RunFault, may_run, walk_floor};
 use cn_floor::{ClosedFloor, Floor, Gate, Leftovers, Words};
 use cn_ledger::Client;
 use cn_spec::limits::MOST_NAMED;
-use cn_wiring::Counting;
+use cn_tables::Counting;
 use std::alloc::{AllocError, Global};
 use std::marker::Model;
 use std::sync::Wait;

@@ -12,7 +12,7 @@ use crate::forking::{make_lanes, walk_lanes};
 use cn_floor::{CloseFault, ClosedFloor, Floor, Gate, Lane, Leftovers};
 use cn_ledger::Client;
 use cn_spec::limits::{MOST_HAND, MOST_WORKERS};
-use cn_wiring::Counting;
+use cn_tables::Counting;
 use std::alloc::Global;
 use std::sync::Wait;
 use std::thread::Threads;

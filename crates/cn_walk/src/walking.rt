@@ -6,7 +6,7 @@ ghost use Rattle.cn_walk.specs.Walks.{GrantsInOrder, IsSole, WalksAll, Walks, in
 
 use cn_floor::{Floor, Gate, Lane, Moment, walk_one};
 use cn_ledger::Client;
-use cn_wiring::End;
+use cn_tables::End;
 use std::sync::Wait;
 
 /// Lets the clients in, one after the other; no more than `hand` are inside then. The hand is only for the proof.

@@ -2,7 +2,7 @@
 use Rattle.std.proofs.Common.{◌≡◌, ℕ, ◌+◌, inl, inr, List, [], ◌++◌, refl, ◌∙◌, arith}
 use Rattle.std.proofs.lemmas.Bool.{cases_lt}
 use Rattle.cn_spec.specs.Sums.{times}
-use Rattle.cn_wiring.specs.Plan.{Plan, AllLoose, Builds}
+use Rattle.cn_tables.specs.Plan.{Plan, AllLoose, Builds}
 use Rattle.cn_spec.proofs.CallerLemmas.{times-append}
 use Rattle.cn_wiring.proofs.Marks.{below_from-loose}
 

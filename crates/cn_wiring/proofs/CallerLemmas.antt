@@ -1,11 +1,5 @@
 -- What proofs of other crates cite of this one. They cite nothing else of proofs/.
 
--- full flows of tables
-pub use Rattle.cn_wiring.proofs.Conserve.{count-twice, full-flow-sum}
-pub use Rattle.cn_wiring.proofs.Few.{full-flow-few}
-pub use Rattle.cn_wiring.proofs.Flow.{full-flow-draft, full-flow-exists, full-flow-paths, full-flow-unique, older}
--- levels of wires
-pub use Rattle.cn_wiring.proofs.Levels.{levels}
 -- parts of networks, and networks that are finished
 pub use Rattle.cn_wiring.proofs.Builds.{Builds-beside, Builds-giving, Builds-like, Builds-loose, Builds-loose_with, Builds-same}
 pub use Rattle.cn_wiring.proofs.Builds.{Builds-sized, Builds-then}

@@ -1,16 +1,16 @@
 -- The exits of a plan.
-use Rattle.std.proofs.Common.{◌≡◌, ℕ, ◌+◌, ◌<◌, ◌≤◌, inl, inr, true, false, List, length, get_or, set, map, refl, ap, sym, ◌∙◌, arith, Option, Some, None, subst, add-zero}
+use Rattle.std.proofs.Common.{◌≡◌, ℕ, ◌+◌, ◌<◌, ◌≤◌, inl, inr, true, false, List, length, get_or, set, map, refl, ap, sym, ◌∙◌, arith, Option, Some, None, subst}
 use Rattle.std.specs.Option.{is_none}
 use Rattle.std.proofs.lemmas.Bool.{cases_eq, eq-eqb, eqb-true}
 use Rattle.std.proofs.lemmas.List.{map-set, set-get_or, get_or-set_same, get_or-set_other, length-map, get_or-map, get_or_default}
-use Rattle.cn_wiring.specs.declared.end.End.{End}
-use Rattle.cn_wiring.specs.declared.end.End.TheVariants.{Balancer, Exit}
+use Rattle.cn_tables.specs.declared.end.End.{End}
+use Rattle.cn_tables.specs.declared.end.End.TheVariants.{Balancer, Exit}
 use Rattle.cn_spec.specs.Sums.{when, times}
-use Rattle.cn_wiring.specs.Plan.{Plan, ends_at, passages, IsFlow, loose, Each, HasLevel}
-use Rattle.cn_wiring.specs.Table.{Table, is_end, sum_at, Stands, LeadsOn, IsWellFormed, IsFullFlow, balancer_of, plan_of_table, EndsInOrder, HasDepth}
-use Rattle.cn_wiring.specs.InsideDraft.{IsOrderly}
+use Rattle.cn_tables.specs.Plan.{Plan, passages, loose, Each, HasLevel, IsOrderly}
+use Rattle.cn_tables.specs.Table.{Table, is_end, sum_at, Stands, LeadsOn, IsWellFormed, balancer_of, plan_of_table, EndsInOrder, HasDepth}
 use Rattle.cn_spec.specs.declared.limits.TheConstants.{MOST_ENDS}
-use Rattle.cn_spec.proofs.CallerLemmas.{times-member, times-place, times-two, total-where-map, total-where-one, total-where-tests}
+use Rattle.cn_spec.proofs.CallerLemmas.{times-member, times-place, times-two, total-where-one}
+use Rattle.cn_tables.proofs.CallerLemmas.{into-passages}
 use Rattle.cn_wiring.proofs.Marks.{below_from-loose, loose_in}
 
 at_most_one : (es : List (Option ℕ)) (w : ℕ) → loose_in es w ≤ 1
@@ -56,18 +56,6 @@ Closed-more ends exits closed i h k c =
                 ∙ c.at_exits j (omega arith)
           ];
     }
-
-same_test : (b : ℕ) (e : End) → ends_at b (balancer_of e) ≡ is_end (Balancer b) e
-same_test b (Balancer c) = refl
-same_test b (Exit i) = refl
-
-pub into-passages : (t : Table) (b : ℕ) (f : ℕ → ℕ) → passages (plan_of_table t) b f ≡ sum_at t (Balancer b) f
-into-passages t b f = total-where-map (ends_at b) balancer_of t.ends f ∙ total-where-tests _ (is_end (Balancer b)) t.ends f (same_test b)
-
-pub flow-plan : (t : Table) (f : ℕ → ℕ) → IsFullFlow t f → IsFlow (plan_of_table t) f
-flow-plan t f p b h =
-    let q = p b h in
-    rw (into-passages t b f, add-zero) q
 
 is-exit : (i : ℕ) (e : End) → is_end (Exit i) e ≡ true → e ≡ Exit i
 is-exit i (Balancer b) q = absurd (cc)

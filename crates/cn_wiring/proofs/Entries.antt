@@ -4,7 +4,7 @@ use Rattle.std.specs.List.{range_with_len}
 use Rattle.std.proofs.lemmas.Bool.{cases_lt}
 use Rattle.std.proofs.lemmas.List.{get_or_past, length-replicate, get_or-replicate}
 use Rattle.cn_spec.specs.Sums.{times}
-use Rattle.cn_wiring.specs.Plan.{entries_alone, loose, HasLevel}
+use Rattle.cn_tables.specs.Plan.{entries_alone, loose, HasLevel}
 use Rattle.cn_spec.proofs.CallerLemmas.{times-inside, times-outside}
 
 module _ (n : ℕ) where

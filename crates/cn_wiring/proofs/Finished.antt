@@ -6,14 +6,14 @@ use Rattle.std.proofs.lemmas.List.FromFn.{fill_by_all}
 use Rattle.cn_spec.specs.Networks.{IsRow}
 use Rattle.cn_spec.specs.Step.{IsStep}
 use Rattle.cn_spec.specs.Sums.{times}
-use Rattle.cn_wiring.specs.declared.end.End.TheVariants.{Exit}
-use Rattle.cn_wiring.specs.declared.kind.Kind.{Kind}
+use Rattle.cn_tables.specs.declared.end.End.TheVariants.{Exit}
+use Rattle.cn_tables.specs.declared.kind.Kind.{Kind}
 use Rattle.cn_wiring.specs.Built.{IsBuilt}
 use Rattle.cn_wiring.specs.Made.{IsTableOf}
-use Rattle.cn_wiring.specs.Network.{Network, IsNetwork, exit_flows}
-use Rattle.cn_wiring.specs.Plan.{Plan, Builds, Each, HasLevel, IsFlow, entries_alone, loose}
-use Rattle.cn_wiring.specs.Table.{Table, IsFullFlow, plan_of_table, sum_at}
-use Rattle.cn_wiring.proofs.Close.{flow-plan}
+use Rattle.cn_tables.specs.Network.{Network, IsNetwork, exit_flows}
+use Rattle.cn_tables.specs.Plan.{Plan, Builds, Each, HasLevel, IsFlow, entries_alone, loose}
+use Rattle.cn_tables.specs.Table.{Table, IsFullFlow, plan_of_table, sum_at}
+use Rattle.cn_tables.proofs.CallerLemmas.{flow-plan}
 
 -- ---- by what finish ensures
 

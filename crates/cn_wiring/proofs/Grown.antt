@@ -4,8 +4,7 @@ use Rattle.std.proofs.lemmas.Bool.{cases_eq, eq-eqb, ne_eqb}
 use Rattle.std.proofs.lemmas.List.Sums.{sum_by-cons}
 use Rattle.cn_spec.specs.Step.{half}
 use Rattle.cn_spec.specs.Sums.{when, times}
-use Rattle.cn_wiring.specs.Plan.{Plan, ends_at, passages, IsFlow, loose, AllLoose, IsPath, HasLevel, Each, Builds, next_wire}
-use Rattle.cn_wiring.specs.InsideDraft.{IsOrderly}
+use Rattle.cn_tables.specs.Plan.{Plan, ends_at, passages, IsFlow, loose, AllLoose, IsPath, HasLevel, Each, Builds, next_wire, IsOrderly}
 use Rattle.cn_spec.specs.declared.limits.TheConstants.{MOST_BALANCERS}
 use Rattle.cn_spec.proofs.CallerLemmas.{total-where-none, total-where-push}
 use Rattle.cn_wiring.proofs.Marks.{AllLooseIn, below_from-end, below_from-loose, get-or-push-none, length-mark, loose_in, loose_in-mark, loose_in-push, mark, mark-at, mark-other, total-mark}

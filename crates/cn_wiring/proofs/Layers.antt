@@ -7,7 +7,7 @@ use Rattle.cn_spec.specs.Sums.{times}
 use Rattle.cn_spec.specs.Networks.{layer}
 use Rattle.cn_spec.proofs.CallerLemmas.{layer-push, times-append}
 use Rattle.cn_wiring.specs.Made.{with_layer}
-use Rattle.cn_wiring.specs.Plan.{Plan, IsFlow, AllLoose, Builds, next_wire, with_balancer}
+use Rattle.cn_tables.specs.Plan.{Plan, IsFlow, AllLoose, Builds, next_wire, with_balancer}
 use Rattle.cn_wiring.proofs.Builds.{Builds-none, Builds-like, Builds-beside, Builds-loose}
 
 -- the first i of xs and of ys have been joined pairwise

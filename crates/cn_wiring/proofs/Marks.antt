@@ -5,7 +5,7 @@ use Rattle.std.proofs.lemmas.Bool.{cases_eq, cases_lt, cases_order, eq-eqb, ne_e
 use Rattle.std.proofs.lemmas.List.Sums.{sum_by-cons}
 use Rattle.std.proofs.lemmas.List.{get_or_past, get_or_append_left, get_or_push}
 use Rattle.cn_spec.specs.Sums.{when, total_where, times}
-use Rattle.cn_wiring.specs.Plan.{ends_at}
+use Rattle.cn_tables.specs.Plan.{ends_at}
 use Rattle.cn_spec.proofs.CallerLemmas.{total-where-set}
 
 -- 1 where wire w of the list ends nowhere

@@ -7,7 +7,7 @@ use Rattle.std.proofs.lemmas.List.FromFn.{length-range_with_len}
 use Rattle.std.proofs.lemmas.Nat.{pow_pos}
 use Rattle.cn_spec.specs.Networks.{IsRow}
 use Rattle.cn_spec.specs.declared.limits.TheConstants.{MOST_ENDS, MOST_LEVEL}
-use Rattle.cn_wiring.specs.Widths.{IsWidthOf}
+use Rattle.cn_tables.specs.Widths.{IsWidthOf}
 use Rattle.cn_wiring.proofs.WidthLemmas.{width-few}
 
 -- the entries of a width are a row of its level, and so are their flows

@@ -3,12 +3,12 @@ use Rattle.std.proofs.Common.{◌≡◌, ℕ, ◌<◌, inl, inr, List, length, g
 use Rattle.std.proofs.lemmas.Bool.{cases_eq, cases_lt, eq-eqb}
 use Rattle.std.proofs.lemmas.List.{ext_get_or, get_or-map, get_or_past, length-map}
 use Rattle.cn_spec.proofs.CallerLemmas.{total-where-parts}
-use Rattle.cn_wiring.specs.declared.end.End.{End}
-use Rattle.cn_wiring.specs.declared.end.End.TheVariants.{Balancer, Exit}
+use Rattle.cn_tables.specs.declared.end.End.{End}
+use Rattle.cn_tables.specs.declared.end.End.TheVariants.{Balancer, Exit}
 use Rattle.cn_wiring.specs.Made.{IsTableOf}
-use Rattle.cn_wiring.specs.Plan.{Plan}
-use Rattle.cn_wiring.specs.Table.{Table, IsWellFormed, Stands, balancer_of, end_of, is_end, plan_of_table}
-use Rattle.cn_wiring.proofs.Tables.{from-balancer}
+use Rattle.cn_tables.specs.Plan.{Plan}
+use Rattle.cn_tables.specs.Table.{Table, IsWellFormed, Stands, balancer_of, end_of, is_end, plan_of_table}
+use Rattle.cn_tables.proofs.CallerLemmas.{from-balancer}
 
 -- a wire that ends at an exit is one of the table
 ends-there : (t : Table) (u i : ℕ) → end_of t u ≡ Exit i → u < length t.ends

@@ -1,7 +1,7 @@
 -- What the builders of counting networks make.
 use Rattle.std.specs.Prelude.{◌≡◌, ℕ}
-use Rattle.cn_wiring.specs.declared.kind.Kind.{Kind}
-use Rattle.cn_wiring.specs.Network.{Network, IsNetwork}
+use Rattle.cn_tables.specs.declared.kind.Kind.{Kind}
+use Rattle.cn_tables.specs.Network.{Network, IsNetwork}
 
 -- a counting network of this kind and these sizes
 pub record IsBuilt (network : Network) (its_kind : Kind) (ins outs size levels : ℕ) : Type 0 where

@@ -1,11 +1,3 @@
-pub mod Plan
-pub mod Kinds
-pub mod Table
 pub mod Made
-pub mod Network
-pub mod InsideWiring
 pub mod InsideDraft
-pub mod Widths
-pub mod Faults
-pub mod Levels
 pub mod Built

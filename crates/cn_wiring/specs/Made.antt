@@ -1,8 +1,8 @@
 -- What is made when a part of a network is added to a plan: the plan after it, and the part's outputs, in order.
 use Rattle.std.specs.Prelude.{◌≡◌, ℕ, ◌*◌, List, [], ◌∷◌, length}
 use Rattle.std.specs.List.{range_with_len}
-use Rattle.cn_wiring.specs.Plan.{Plan, next_wire, with_balancer}
-use Rattle.cn_wiring.specs.Table.{Table, EndsInOrder, plan_of_table}
+use Rattle.cn_tables.specs.Plan.{Plan, next_wire, with_balancer}
+use Rattle.cn_tables.specs.Table.{Table, EndsInOrder, plan_of_table}
 
 -- the plan with a balancer more for each pair of wires of two lists, in order
 unfoldable pub with_layer : Plan → List ℕ → List ℕ → Plan

@@ -6,17 +6,14 @@ ghost use Rattle.cn_spec.specs.Networks.{layer};
 ghost use Rattle.cn_spec.specs.Step.{IsStep, half};
 ghost use Rattle.cn_spec.specs.Sums.{Agree, times, when};
 ghost use Rattle.cn_wiring.specs.Made.{IsTableOf, with_layer};
-ghost use Rattle.cn_wiring.specs.Network.{IsNetwork, exit_flows};
-ghost use Rattle.cn_wiring.specs.Plan.{AllLoose, Builds, Each, HasLevel, IsFlow, IsPath, entries_alone, loose, next_wire, with_balancer};
-ghost use Rattle.cn_wiring.specs.Table.{HasDepth, IsFullFlow, IsWellFormed, balancer_of, sum_at};
-ghost use Rattle.cn_wiring.specs.declared.end.End.{End};
-ghost use Rattle.cn_wiring.specs.declared.end.End.TheVariants.{Balancer, Exit};
+ghost use Rattle.cn_tables.specs.Network.{IsNetwork, exit_flows};
+ghost use Rattle.cn_tables.specs.Plan.{AllLoose, Builds, Each, HasLevel, IsFlow, IsPath, entries_alone, loose, next_wire, with_balancer};
+ghost use Rattle.cn_tables.specs.Table.{HasDepth, IsFullFlow, IsWellFormed, balancer_of, sum_at};
+ghost use Rattle.cn_tables.specs.declared.end.End.{End};
+ghost use Rattle.cn_tables.specs.declared.end.End.TheVariants.{Balancer, Exit};
 
-use crate::counting::Counting;
-use crate::end::End;
-use crate::kind::Kind;
-use crate::wiring::Wiring;
 use cn_spec::limits::{MOST_BALANCERS, MOST_ENDS};
+use cn_tables::{Counting, End, Kind, Wiring};
 use std::alloc::{AllocError, Global};
 use std::marker::Model;
 
@@ -33,11 +30,12 @@ pub struct Draft {
 }
 
 impl Model for Draft {
-    ghost use Rattle.cn_wiring.specs.Plan.{Plan};
+    ghost use Rattle.cn_tables.specs.Plan.{Plan};
 
     ghost Value = { Plan };
 
-    ghost use Rattle.cn_wiring.specs.InsideDraft.{plan_of, IsOrderly};
+    ghost use Rattle.cn_tables.specs.Plan.{IsOrderly};
+    ghost use Rattle.cn_wiring.specs.InsideDraft.{plan_of};
 
     ghost view = { plan_of };
 

@@ -1,7 +1,7 @@
 //! The widths of networks.
 
 ghost use Rattle.std.specs.Prelude.{◌≡◌, ◌^◌, ◌≤◌, ◌↔◌, IsTrue, MatchOption};
-ghost use Rattle.cn_wiring.specs.Widths.{IsWidth, IsWidthOf};
+ghost use Rattle.cn_tables.specs.Widths.{IsWidth, IsWidthOf};
 
 use cn_spec::limits::MOST_LEVEL;
 

@@ -1,8 +1,8 @@
 -- What the calls make of lanes.
 use Rattle.std.specs.Prelude.{◌≡◌, ℕ, ◌*◌, ◌≤◌, Bool, true, false, Option, Some}
 use Rattle.cn_spec.specs.declared.limits.TheConstants.{MOST_ROOM}
-use Rattle.cn_wiring.specs.declared.kind.Kind.{Kind}
-use Rattle.cn_wiring.specs.declared.kind.Kind.TheVariants.{Bitonic, Periodic, Tree}
+use Rattle.cn_tables.specs.declared.kind.Kind.{Kind}
+use Rattle.cn_tables.specs.declared.kind.Kind.TheVariants.{Bitonic, Periodic, Tree}
 use Rattle.cn_nets.specs.Net.{IsNetworkOf}
 use Rattle.cn_floor.specs.Carried.{start_after}
 use Rattle.cn_floor.specs.Ends.{IsClosedFloor, ListsHolders, counts_by_exit}

@@ -2,7 +2,7 @@
 -- no record shows, as want of memory, they say that the earlier ones do not stand.
 use Rattle.std.specs.Prelude.{◌≡◌, ◌≢◌, ℕ, ◌+◌, ◌<◌, ◌≤◌, All, List, Option, None, Some, ⊤, length}
 use Rattle.cn_spec.specs.declared.limits.TheConstants.{MOST_CARRIED, MOST_CLIENTS}
-use Rattle.cn_wiring.specs.Widths.{IsWidth}
+use Rattle.cn_tables.specs.Widths.{IsWidth}
 use Rattle.cn_yard.specs.Lists.{on, tokens_in}
 use Rattle.cn_floor.specs.Carried.{client_count}
 use Rattle.cn_floor.specs.Lane.{LaneValue}

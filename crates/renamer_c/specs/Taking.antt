@@ -1,6 +1,6 @@
 -- What calls make of takers, and why they are refused: each by the first cause that stands, in the order of the lines.
 use Rattle.std.specs.Prelude.{◌≡◌, ℕ, ◌*◌, ◌/◌, ◌<◌, ◌≤◌, min, nat_le, if◌then◌else◌, List, Option, None, Some}
-use Rattle.cn_wiring.specs.declared.kind.Kind.{Kind}
+use Rattle.cn_tables.specs.declared.kind.Kind.{Kind}
 use Rattle.cn_nets.specs.Net.{IsNetworkOf}
 use Rattle.cn_floor.specs.Steps.{IsAnswer, StoodInState}
 use Rattle.cn_lists.specs.Taking.{AreTaken, IsTaken, TakerValue, empty_taker}

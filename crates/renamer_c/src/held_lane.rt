@@ -25,7 +25,7 @@ use crate::question::Question;
 use crate::refusal::Refusal;
 use cn_floor::{Floor, Lane, LaneFault, OpenFault, Words};
 use cn_spec::limits::MOST_ROOM;
-use cn_wiring::Counting;
+use cn_tables::Counting;
 use std::alloc::{AllocError, Global};
 use std::marker::Model;
 use std::sync::Arc;

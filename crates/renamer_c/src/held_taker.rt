@@ -13,7 +13,7 @@ use crate::refusal::Refusal;
 use cn_floor::{Floor, LaneFault, Words};
 use cn_lists::{Taker, open_for_takers, split_off_taker, take, take_many, takes_begun};
 use cn_spec::limits::MOST_TAKEN;
-use cn_wiring::Counting;
+use cn_tables::Counting;
 use std::alloc::Global;
 use std::marker::Model;
 use std::sync::Arc;

@@ -2,7 +2,7 @@
 
 ghost use Rattle.std.specs.Prelude.{◌≡◌, ◌<◌, ◌≤◌, true, false, None, IfErr, IfOk, OnErr, OnOk};
 ghost use Rattle.cn_spec.specs.declared.limits.TheConstants.{MOST_CLIENTS};
-ghost use Rattle.cn_wiring.specs.Widths.{IsWidth};
+ghost use Rattle.cn_tables.specs.Widths.{IsWidth};
 ghost use Rattle.renamer_c.specs.Calls.{LieApart, Opens, Splits, number_of};
 ghost use Rattle.renamer_c.specs.Handles.{lane_in, lane_held};
 ghost use Rattle.renamer_c.specs.Refusals.{IsRefusal, NotOpened, NotSplit, WithLane};
@@ -14,7 +14,7 @@ use crate::held_lane::HeldLane;
 use crate::refusal::{DONE, Refusal};
 use cn_nets::Net;
 use cn_spec::limits::MOST_CLIENTS;
-use cn_wiring::Kind;
+use cn_tables::Kind;
 use std::alloc::Global;
 
 /// The version: 1,000,000 times the major number, 1,000 times the minor one, and the patch, added.

@@ -2,7 +2,7 @@
 use Rattle.std.proofs.Common.{◌≡◌, ◌≢◌, ℕ, ◌+◌, ◌<◌, ◌≤◌, ◌&&◌, inl, inr, Bool, true, false, eqb, ltb, List, [], length, get_or, sym, refl, ap, arith}
 use Rattle.cn_floor.proofs.Common.{Balancer, End, Exit, HoldsAt, IsClosed, IsSound, IsStart, Ledger, Stands, Start, State, Table, View, WordsValue, cases_lt, count_in, eq-eqb, le-ltb, ledger_of, lt-ltb, name_of, ne_eqb, sum-below-zero, when, word_count}
 use Rattle.std.proofs.lemmas.Bool.{eqb-true, ltb-true}
-use Rattle.cn_wiring.specs.Table.{is_end, sum_at}
+use Rattle.cn_tables.specs.Table.{is_end, sum_at}
 use Rattle.cn_ledger.specs.Ledger.{IsTight, put}
 use Rattle.cn_floor.specs.Carried.{AreTight}
 use Rattle.cn_floor.specs.Ends.{NobodyInside}

@@ -2,9 +2,9 @@
 use Rattle.std.proofs.Common.{◌≡◌, ℕ, ◌+◌, ◌%◌, ◌<◌, List, [], ◌∷◌, length, ap, subst, arith}
 use Rattle.std.proofs.lemmas.Nat.{mod_below}
 use Rattle.cn_floor.proofs.Common.{Balancer, IsWellFormed, Stands, Start, Table, View, after_step, output_wire}
-use Rattle.cn_wiring.specs.Levels.{IsLevel}
-use Rattle.cn_wiring.specs.Network.{IsNetwork}
-use Rattle.cn_wiring.proofs.CallerLemmas.{levels}
+use Rattle.cn_tables.specs.Levels.{IsLevel}
+use Rattle.cn_tables.specs.Network.{IsNetwork}
+use Rattle.cn_tables.proofs.CallerLemmas.{levels}
 use Rattle.cn_floor.specs.Alone.{PassesOn}
 use Rattle.cn_floor.specs.Named.{WalksThrough}
 

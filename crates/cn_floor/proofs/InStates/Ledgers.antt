@@ -3,7 +3,7 @@ use Rattle.std.proofs.Common.{◌≡◌, ℕ, ◌+◌, ◌-◌, ◌%◌, ◌<◌
 use Rattle.cn_floor.proofs.Common.{Balancer, End, Exit, Grant, IsThere, Ledger, Stands, Start, Table, View, after_enter, after_step, base, count_in, end_of, end_word, get_elem?, given_in, granted_in, ledger_of, name_of, on_in, output_wire, some, standing_in, when, word_count}
 use Rattle.std.proofs.lemmas.Bool.Decides.{nat_tests}
 use Rattle.std.proofs.lemmas.List.Sums.{sum_by_push}
-use Rattle.cn_wiring.specs.Table.{is_end}
+use Rattle.cn_tables.specs.Table.{is_end}
 use Rattle.cn_ledger.specs.Events.{Enters, Goes, Leaves, Passes, one_at}
 use Rattle.cn_floor.specs.declared.view.Passage.{Passage}
 use Rattle.cn_floor.proofs.Lists.{ones, weigh-come, weigh-leave, weigh-pass}

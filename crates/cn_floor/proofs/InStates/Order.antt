@@ -1,7 +1,7 @@
 -- In which order names are granted.
 use Rattle.std.proofs.Common.{ℕ, ◌≤◌, List, [], ◌∷◌, ap, arith}
 use Rattle.cn_floor.proofs.Common.{Balancer, End, Exit, IsSound, Ledger, Network, Table, end_of}
-use Rattle.cn_wiring.specs.Network.{IsNetwork}
+use Rattle.cn_tables.specs.Network.{IsNetwork}
 use Rattle.cn_ledger.specs.Ledger.{all_entered}
 use Rattle.cn_ledger.proofs.CallerLemmas.{between, tight}
 use Rattle.cn_spec.proofs.CallerLemmas.{sum-below-le}

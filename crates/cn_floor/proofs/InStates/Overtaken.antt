@@ -8,7 +8,7 @@ use Rattle.std.proofs.lemmas.Nat.{mod_below}
 use Rattle.cn_floor.proofs.Common.{Balancer, End, Exit, IsSound, IsWellFormed, LeadsOn, Ledger, Stands, Table, cases_eq, cases_lt, end_of, eq-eqb, name_of, ne_eqb, output_wire, sum-below-one, sum-below-same, when}
 use Rattle.cn_spec.specs.Step.{share}
 use Rattle.cn_spec.proofs.CallerLemmas.{name-below, sum-below-plus}
-use Rattle.cn_wiring.specs.Network.{Counts}
+use Rattle.cn_tables.specs.Network.{Counts}
 use Rattle.cn_ledger.specs.Events.{one_at}
 use Rattle.cn_ledger.specs.Ledger.{IsQuiescent, all_entered}
 use Rattle.cn_ledger.proofs.CallerLemmas.{entering, leaving-there, passing-there, sound-leaves, tight}

@@ -2,7 +2,7 @@
 use Rattle.std.proofs.Common.{◌≡◌, ◌≢◌, ℕ, zero, suc, ◌+◌, ◌<◌, ◌≤◌, inl, inr, cond, eqb, ltb, List, [], ◌∷◌, length, get_or, set, refl, ap, ◌∙◌, arith}
 use Rattle.cn_floor.proofs.Common.{Balancer, End, Exit, Stands, Table, cases_eq, cases_lt, count_in, end_word, entered_in, eq-eqb, le-ltb, lt-ltb, ne_eqb, when, word_count}
 use Rattle.std.proofs.lemmas.Bool.Decides.{nat_tests}
-use Rattle.cn_wiring.specs.Table.{is_end}
+use Rattle.cn_tables.specs.Table.{is_end}
 use Rattle.cn_ledger.specs.Events.{one_at}
 use Rattle.cn_spec.proofs.CallerLemmas.{one_more-at}
 

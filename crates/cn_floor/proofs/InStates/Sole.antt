@@ -9,7 +9,7 @@ use Rattle.cn_floor.proofs.InStates.Bounds.{count-risen}
 use Rattle.cn_floor.proofs.InStates.Walked.{no-levels}
 use Rattle.cn_floor.proofs.InStates.Totals.{mine-only, part-le, total_same}
 use Rattle.cn_spec.proofs.CallerLemmas.{once-in, sum-below-plus, sum-below-total}
-use Rattle.cn_wiring.proofs.CallerLemmas.{levels}
+use Rattle.cn_tables.proofs.CallerLemmas.{levels}
 
 -- the numbers below c, of those below n
 below-once : (n c : ℕ) → c ≤ n → sum_below n (once_below c) ≡ c

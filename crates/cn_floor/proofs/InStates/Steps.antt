@@ -3,7 +3,7 @@ use Rattle.std.proofs.Common.{◌≡◌, ℕ, ◌+◌, ◌-◌, ◌%◌, ◌^◌
 use Rattle.cn_floor.proofs.Common.{Allows, Balancer, End, Exit, Grant, HoldsAt, IsAccounted, IsFresh, IsLetBy, IsSound, IsThere, Ledger, Me, Stands, Start, State, Table, View, after_step, at_set, base, clients_in, count_in, end_of, end_word, entered_in, eq-eqb, get_elem?, keeps, ledger_of, load_bound, lt-ltb, name_of, once_below, output_wire, some, times}
 use Rattle.std.proofs.lemmas.List.Elements.{All-push}
 use Rattle.atomic_table.specs.Table.{stepped}
-use Rattle.cn_wiring.specs.Table.{is_end}
+use Rattle.cn_tables.specs.Table.{is_end}
 use Rattle.cn_ledger.specs.Moves.{IsMoveOf}
 use Rattle.cn_floor.specs.History.{GoesFrom, Step}
 use Rattle.cn_floor.specs.Plays.{Going, GoesOn}

@@ -12,7 +12,7 @@ use super::Floor;
 use crate::gate::NoPause;
 use crate::view::{Grant, View};
 use atomic_table::Seat;
-use cn_wiring::{Counting, End};
+use cn_tables::{Counting, End};
 use std::marker::Brand;
 
 impl<'a> Floor<'a> {

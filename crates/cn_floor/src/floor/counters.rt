@@ -6,7 +6,7 @@ mod spreading;
 
 ghost use Rattle.std.specs.Mem.Slots.{slots_items, slots_len, IsFull};
 ghost use Rattle.std.specs.Prelude.{◌≡◌, ◌+◌, ◌*◌, ◌^◌, ◌<◌, ◌≤◌, ℕ, [], length, IfOk};
-ghost use Rattle.cn_wiring.specs.Table.{Stands, end_of};
+ghost use Rattle.cn_tables.specs.Table.{Stands, end_of};
 ghost use Rattle.cn_yard.specs.Lists.{IsThere, on, times_in};
 ghost use Rattle.cn_floor.specs.Closing.{IsEnding};
 ghost use Rattle.cn_floor.specs.EntersAll.{AllComeIn};
@@ -24,7 +24,7 @@ use super::plays::{
 };
 use crate::view::{Opening, View};
 use atomic_table::{Closed, Seat, Table};
-use cn_wiring::{Counting, End};
+use cn_tables::{Counting, End};
 use cn_yard::Token;
 use spreading::table_of;
 use std::alloc::{AllocError, Global};

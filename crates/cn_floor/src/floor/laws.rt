@@ -2,7 +2,7 @@
 //! speak of each state that keeps the floor's rule, and each step of a lane is from such a state to such a state.
 
 ghost use Rattle.std.specs.Prelude.{◌≡◌, ℕ, ◌+◌, ◌++◌, ◌≤◌, [], List, length};
-ghost use Rattle.cn_wiring.specs.declared.end.End.{End};
+ghost use Rattle.cn_tables.specs.declared.end.End.{End};
 ghost use Rattle.cn_ledger.specs.declared.moved.Moved.{Moved};
 ghost use Rattle.cn_ledger.specs.Events.{Enters};
 ghost use Rattle.cn_ledger.specs.Gaps.{IsNearShares, IsSmooth};

@@ -9,7 +9,7 @@ ghost use Rattle.cn_floor.specs.Lane.{IsIdle};
 use super::closed_floor::ClosedFloor;
 use super::words::Words;
 use super::yard_for;
-use cn_wiring::Counting;
+use cn_tables::Counting;
 use cn_yard::Yard;
 use std::alloc::{AllocError, Global};
 use std::marker::Model;

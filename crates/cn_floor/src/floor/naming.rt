@@ -1,8 +1,8 @@
 //! One client is walked by one call, with its wire in a local.
 
 ghost use Rattle.std.specs.Prelude.{◌≡◌, ℕ, ◌<◌, ◌≤◌, ◌⊎◌, ◌↔◌, [], List, length, replicate, IfOk, IsErrOf, OnErr};
-ghost use Rattle.cn_wiring.specs.declared.end.End.TheVariants.{Balancer, Exit};
-ghost use Rattle.cn_wiring.specs.Table.{end_of};
+ghost use Rattle.cn_tables.specs.declared.end.End.TheVariants.{Balancer, Exit};
+ghost use Rattle.cn_tables.specs.Table.{end_of};
 ghost use Rattle.cn_yard.specs.Lists.{on, tokens_in};
 ghost use Rattle.cn_floor.specs.Alone.{IsAlone, OnlyPassed, PassesOn};
 ghost use Rattle.cn_floor.specs.Named.{IsGranted, IsNamed, WalksThrough};
@@ -16,7 +16,7 @@ use atomic_table::Seat;
 use cn_balancer::output_of;
 use cn_exit::name_of;
 use cn_ledger::Client;
-use cn_wiring::{Counting, End};
+use cn_tables::{Counting, End};
 use cn_yard::Token;
 use std::marker::Brand;
 use std::sync::Wait;

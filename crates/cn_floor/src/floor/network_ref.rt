@@ -3,7 +3,7 @@
 ghost use Rattle.std.specs.Arc.{arc_value};
 ghost use Rattle.std.specs.Prelude.{◌≡◌, IfOk};
 
-use cn_wiring::Counting;
+use cn_tables::Counting;
 use std::alloc::{AllocError, Global};
 use std::marker::Model;
 use std::sync::Arc;
@@ -24,7 +24,7 @@ pub(super) struct NetworkRef<'a> {
 
 impl<'a> Model for NetworkRef<'a> {
     ghost use Rattle.cn_floor.specs.InsideNetworkRef.{network_of};
-    ghost use Rattle.cn_wiring.specs.Network.{Network};
+    ghost use Rattle.cn_tables.specs.Network.{Network};
 
     ghost Value = { Network };
 

@@ -2,7 +2,7 @@
 
 ghost use Rattle.std.specs.Prelude.{◌≡◌, ◌+◌, ◌*◌, ◌<◌, ◌≤◌, ◌↔◌, [], length, replicate, IfErr, IfOk, IfSome, IsErrOf};
 ghost use Rattle.cn_spec.specs.declared.limits.TheConstants.{MOST_CARRIED, MOST_CLIENTS, MOST_NAMED};
-ghost use Rattle.cn_wiring.specs.Network.{IsNetwork};
+ghost use Rattle.cn_tables.specs.Network.{IsNetwork};
 ghost use Rattle.cn_yard.specs.Lists.{empty, tokens_in};
 ghost use Rattle.cn_floor.specs.Carried.{client_count, start_after, zero_words};
 ghost use Rattle.cn_floor.specs.InsideLeftovers.{spare_in};
@@ -22,7 +22,7 @@ use crate::fault::OpenFault;
 use crate::view::View;
 use atomic_table::Seat;
 use cn_spec::limits::MOST_CLIENTS;
-use cn_wiring::Counting;
+use cn_tables::Counting;
 use cn_yard::Yard;
 use std::alloc::{AllocError, Global};
 

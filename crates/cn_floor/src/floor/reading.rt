@@ -6,7 +6,7 @@ ghost use Rattle.cn_floor.specs.Spread.{IsSpaced, words_in};
 ghost use Rattle.cn_floor.specs.Words.{IsDifference, clients_in, word_count};
 
 use atomic_table::Closed;
-use cn_wiring::Counting;
+use cn_tables::Counting;
 use std::alloc::Global;
 
 /// A word of a closed table in which they lie a stride apart.

@@ -13,7 +13,7 @@ use crate::view::Grant;
 use cn_balancer::output_of;
 use cn_exit::name_of;
 use cn_ledger::Moved;
-use cn_wiring::End;
+use cn_tables::End;
 use cn_yard::Token;
 use std::marker::Brand;
 

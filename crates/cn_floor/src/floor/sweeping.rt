@@ -10,7 +10,7 @@ use crate::floor::{Floor, Lane};
 use crate::view::{Grant, Sweep};
 use cn_balancer::output_of;
 use cn_exit::name_of;
-use cn_wiring::End;
+use cn_tables::End;
 use cn_yard::Yard;
 use std::marker::Brand;
 

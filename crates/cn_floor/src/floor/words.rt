@@ -2,7 +2,7 @@
 
 ghost use Rattle.std.specs.Arc.{arc_value};
 ghost use Rattle.std.specs.Prelude.{◌≡◌, ◌<◌, None, length, IfOk, IfSome};
-ghost use Rattle.cn_wiring.specs.declared.end.End.TheVariants.{Balancer, Exit};
+ghost use Rattle.cn_tables.specs.declared.end.End.TheVariants.{Balancer, Exit};
 ghost use Rattle.cn_floor.specs.Carried.{AreTight, IsClosed, client_count, zero_words};
 ghost use Rattle.cn_floor.specs.Ends.{words_after};
 ghost use Rattle.cn_floor.specs.Spacing.{stride_of};
@@ -15,7 +15,7 @@ use super::counters::MOST_STRIDE;
 use super::network_ref::NetworkRef;
 use super::reading::rise;
 use super::zeros;
-use cn_wiring::Counting;
+use cn_tables::Counting;
 use std::alloc::{AllocError, Global};
 use std::marker::Model;
 use std::sync::Arc;

@@ -15,7 +15,7 @@ use Rattle.cn_ledger.specs.declared.answer.TurnFault.TheVariants.{NotQuiet}
 use Rattle.cn_ledger.specs.declared.command.Command.{Command}
 use Rattle.cn_ledger.specs.declared.command.Command.TheVariants.{Enter, Step, Turn}
 use Rattle.cn_ledger.specs.declared.record.EpochRecord.{EpochRecord}
-use Rattle.cn_wiring.specs.Network.{Network}
+use Rattle.cn_tables.specs.Network.{Network}
 use Rattle.cn_report.specs.Writing.Outcome.{IsWholeRecord, exit_lines, name_lines}
 use Rattle.cn_report.specs.Writing.Text.{heading, line}
 

@@ -2,7 +2,7 @@
 use Rattle.std.specs.Prelude.{ℕ, List, [], ◌∷◌, ◌++◌, length, codes, decimal}
 use Rattle.std.specs.List.{flat_map, sum_by}
 use Rattle.cn_ledger.specs.declared.record.EpochRecord.{EpochRecord}
-use Rattle.cn_wiring.specs.Network.{Network}
+use Rattle.cn_tables.specs.Network.{Network}
 use Rattle.cn_report.specs.Writing.Outcome.{outcome_lines}
 use Rattle.cn_report.specs.Writing.Text.{heading, line}
 

@@ -4,7 +4,7 @@ ghost use Rattle.std.specs.Prelude.{◌≡◌, IfErr, IfOk, IfSome, map};
 ghost use Rattle.std.specs.List.{flat_map, sum_by};
 ghost use Rattle.cn_spec.specs.Step.{shares};
 ghost use Rattle.cn_spec.specs.declared.limits.TheConstants.{MOST_RECORDS};
-ghost use Rattle.cn_wiring.specs.Widths.{IsWidth};
+ghost use Rattle.cn_tables.specs.Widths.{IsWidth};
 ghost use Rattle.cn_report.specs.Callers.{AnswersTight, plain_tight};
 ghost use Rattle.cn_report.specs.Grants.TightList.{IsOutside, IsTightList};
 ghost use Rattle.cn_report.specs.Grants.TightText.{tight_counts, tight_line, tight_text};

@@ -18,7 +18,7 @@ use crate::writing::pieces::Pieces;
 use crate::writing::report::{send_end, send_epoch_line};
 use crate::writing::{OpenEpoch, write_replay, write_wiring};
 use cn_ledger::{Answer, Command, EpochRecord};
-use cn_wiring::Counting;
+use cn_tables::Counting;
 use std::alloc::{AllocError, Global};
 use std::io::Write;
 

@@ -7,7 +7,7 @@ ghost use Rattle.cn_report.specs.Writing.Pieces.{Puts};
 ghost use Rattle.cn_report.specs.Writing.Text.{heading};
 
 use crate::writing::pieces::Pieces;
-use cn_wiring::Counting;
+use cn_tables::Counting;
 use itoa::{Buffer, Integer, write_digits};
 use std::io::Write;
 

@@ -16,7 +16,7 @@ use crate::writing::outcome::{send_counts, send_exits, send_holders};
 use crate::writing::pieces::Pieces;
 use cn_ledger::{Answer, Command, EpochRecord, TurnFault};
 use cn_spec::limits::MOST_ENDS;
-use cn_wiring::Counting;
+use cn_tables::Counting;
 use std::io::Write;
 
 /// The epoch that stands open at the end of a replay.

@@ -19,7 +19,7 @@ use crate::writing::line::{send_heading, send_line, send_number};
 use crate::writing::outcome::{send_counts, send_holders};
 use crate::writing::pieces::Pieces;
 use cn_spec::limits::{MOST_ENDS, MOST_NAMED};
-use cn_wiring::Counting;
+use cn_tables::Counting;
 use std::io::Write;
 
 /// Sends the line of an epoch.

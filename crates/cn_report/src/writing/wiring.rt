@@ -8,7 +8,7 @@ ghost use Rattle.cn_report.specs.Writing.Written.{First, HasWritten, written_by}
 use crate::writing::emitting::EmitFault;
 use crate::writing::line::{send_heading, send_line, send_numbered};
 use crate::writing::pieces::Pieces;
-use cn_wiring::{Counting, End};
+use cn_tables::{Counting, End};
 use std::io::Write;
 
 /// Sends a line as `wire 0 balancer 0` or `wire 3 exit 0`.

@@ -1,7 +1,7 @@
 use Rattle.std.proofs.Common.{◌≡◌, ◌∙◌, map, ap, rules}
 use Rattle.std.specs.List.{range_with_len}
 use Rattle.cn_spec.specs.Networks as net
-use Rattle.cn_wiring.specs.declared.kind.Kind.TheVariants.{Bitonic}
+use Rattle.cn_tables.specs.declared.kind.Kind.TheVariants.{Bitonic}
 use Rattle.cn_spec.proofs.CallerLemmas.{same-level}
 use Rattle.cn_wiring.proofs.CallerLemmas.{Drawn, drawn, drawn-built, drawn-counts, entries-row, flows-row, outputs-count}
 use Rattle.cn_bitonic.specs.Order.{bitonic_plan}

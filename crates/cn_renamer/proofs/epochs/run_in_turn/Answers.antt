@@ -4,7 +4,7 @@ use Rattle.std.proofs.lemmas.List.{length-drop, length-take-le}
 use Rattle.std.proofs.lemmas.List.Sums.{sum_by_push, sum_by-take-le}
 use Rattle.std.proofs.lemmas.Slice.{take-put_mid}
 use borrow.Rule.Slice.PartMut.{put_mid, same_len_mid}
-use Rattle.cn_wiring.specs.Network.{Network}
+use Rattle.cn_tables.specs.Network.{Network}
 use Rattle.cn_floor.specs.Carried.{client_count}
 use Rattle.cn_floor.specs.Ends.{QuietValue}
 use Rattle.cn_walk.specs.Runner.{RunnerValue}

@@ -1,6 +1,6 @@
 use Rattle.std.proofs.Common.{◌≡◌, ◌-◌, ◌^◌, ◌∙◌, refl, rules}
 use Rattle.cn_spec.specs.Networks as net
-use Rattle.cn_wiring.specs.declared.kind.Kind.TheVariants.{Tree}
+use Rattle.cn_tables.specs.declared.kind.Kind.TheVariants.{Tree}
 use Rattle.cn_spec.proofs.CallerLemmas.{same-level}
 use Rattle.cn_wiring.proofs.CallerLemmas.{Drawn, drawn, drawn-built}
 use Rattle.cn_tree.specs.Order.{tree_plan}

@@ -1,5 +1,5 @@
 use Rattle.std.proofs.Common.{rules, ◌≡◌, ℕ, ◌<◌, [], ap, ◌∙◌, subst, sym, arith, length}
-use Rattle.cn_wiring.specs.Table.{IsWellFormed}
+use Rattle.cn_tables.specs.Table.{IsWellFormed}
 use Rattle.cn_yard.specs.Lists.{on, tokens_in}
 use Rattle.cn_floor.specs.Lane.{FloorValue}
 use Rattle.cn_walk.proofs.SweptWalks.{clear-below, sweeps}

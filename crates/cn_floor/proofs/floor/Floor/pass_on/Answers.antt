@@ -4,7 +4,7 @@ use Rattle.cn_floor.specs.Alone.{OnlyPassed, PassesOn}
 use Rattle.cn_floor.proofs.InLane.Alone.{alone-on, passed-more, passed-on, passes-more, there-alone}
 use Rattle.cn_floor.proofs.InLane.Depths.{EndsAt, LiesAt, at-balancer, at-exit, entries-first, one-deeper}
 use Rattle.std.proofs.lemmas.Nat.{mod_below}
-use Rattle.cn_wiring.specs.Network.{IsNetwork}
+use Rattle.cn_tables.specs.Network.{IsNetwork}
 use Rattle.cn_floor.proofs.floor.Floor.pass_on.Given as given
 use Rattle.cn_floor.proofs.floor.Floor.pass_on.Goals as goal
 

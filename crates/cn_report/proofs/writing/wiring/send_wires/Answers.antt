@@ -1,7 +1,7 @@
 use Rattle.cn_report.proofs.Common.{◌≡◌, ◌∙◌, ◌<◌, ◌≤◌, ℕ, ap, arith, get_or, length, sym, zero-add, enumerate_from}
 use Rattle.std.proofs.lemmas.List.FromFn.{get_or-enumerate_from, length-enumerate_from}
-use Rattle.cn_wiring.specs.declared.end.End.{End}
-use Rattle.cn_wiring.specs.declared.end.End.TheVariants.{Balancer}
+use Rattle.cn_tables.specs.declared.end.End.{End}
+use Rattle.cn_tables.specs.declared.end.End.TheVariants.{Balancer}
 use Rattle.cn_report.specs.Writing.Wiring.{wire_line}
 use Rattle.cn_report.proofs.WritingLemmas.Putting.{put-last, put-next, put-none}
 use Rattle.cn_report.proofs.writing.wiring.send_wires.Goals as goal

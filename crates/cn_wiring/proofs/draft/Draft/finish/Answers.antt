@@ -1,7 +1,7 @@
 use Rattle.std.proofs.Common.{◌≡◌, ℕ, List, length, map, refl, ap, ◌∙◌, rules}
 use Rattle.cn_spec.specs.Sums.{times}
-use Rattle.cn_wiring.specs.Plan.{Plan, loose}
-use Rattle.cn_wiring.specs.Table.{Table, balancer_of, plan_of_table}
+use Rattle.cn_tables.specs.Plan.{Plan, loose}
+use Rattle.cn_tables.specs.Table.{Table, balancer_of, plan_of_table}
 use Rattle.cn_wiring.specs.InsideDraft.{plan_of}
 use Rattle.cn_wiring.proofs.Close.{closed-formed, closed-depth, out-is}
 use Rattle.cn_wiring.proofs.draft.Draft.finish.Goals as goal

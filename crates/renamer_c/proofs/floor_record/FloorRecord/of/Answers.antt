@@ -1,6 +1,6 @@
 use Rattle.std.proofs.Common.{◌+◌, ◌-◌, ℕ, List, ap, arith, length, slice_index}
 use Rattle.std.proofs.lemmas.List.FromFn.{length-map-range_with_len}
-use Rattle.cn_wiring.specs.Table.{Table}
+use Rattle.cn_tables.specs.Table.{Table}
 use Rattle.renamer_c.proofs.floor_record.FloorRecord.of.Goals as goal
 
 pub copy_from_slice-requires : goal.copy_from_slice-requires

@@ -1,0 +1,57 @@
+-- A full flow keeps the sum.
+use Rattle.std.proofs.Common.{◌≡◌, ℕ, zero, suc, ◌+◌, ◌*◌, ◌<◌, ◌≤◌, List, [], ◌∷◌, length, get_or, refl, ap, arith, zero-add}
+use Rattle.cn_tables.specs.declared.end.End.{End}
+use Rattle.cn_tables.specs.declared.end.End.TheVariants.{Balancer, Exit}
+use Rattle.cn_spec.specs.Step.{half}
+use Rattle.cn_spec.specs.Sums.{total_where, sum_below}
+use Rattle.cn_spec.proofs.CallerLemmas.{half-sum, sum-below-front, sum-below-none, sum-below-pick, sum-below-same, sum-below-zero}
+use Rattle.cn_tables.specs.Table.{Table, is_end, sum_at, Stands, IsWellFormed, IsFullFlow}
+
+-- each place of the list is at one balancer or at one exit
+pub count-twice : (t : Table) (xs : List End) (f : ℕ → ℕ) → ((u : ℕ) → u < length xs → Stands t (get_or xs u (Balancer 0)))
+    → sum_below t.balancers (λ b. total_where (is_end (Balancer b)) xs f) + sum_below t.width (λ i. total_where (is_end (Exit i)) xs f)
+    ≡ sum_below (length xs) f
+unfolding total_where
+count-twice t [] f h = omega (
+  arith,
+  sum-below-zero t.balancers (λ _. 0) (λ _. refl),
+  sum-below-zero t.width (λ _. 0) (λ _. refl),
+  sum-below-none f,
+)
+count-twice t (Balancer c ∷ xs) f h =
+    let rest = count-twice t xs (λ u. f (suc u)) (λ u k. h (suc u) (omega arith)) in
+    let first = sum-below-pick t.balancers c (f 0) (λ b. total_where (is_end (Balancer b)) xs (λ u. f (suc u))) (h 0 (omega arith)) in
+    let other : sum_below t.width (λ i. 0 + total_where (is_end (Exit i)) xs (λ u. f (suc u)))
+    ≡ sum_below t.width (λ i. total_where (is_end (Exit i)) xs (λ u. f (suc u))) = sum-below-same t.width _ _ (λ u k. zero-add _) in
+    omega (arith, sum-below-front (length xs) f)
+count-twice t (Exit j ∷ xs) f h =
+    let rest = count-twice t xs (λ u. f (suc u)) (λ u k. h (suc u) (omega arith)) in
+    let first = sum-below-pick t.width j (f 0) (λ i. total_where (is_end (Exit i)) xs (λ u. f (suc u))) (h 0 (omega arith)) in
+    let other : sum_below t.balancers (λ b. 0 + total_where (is_end (Balancer b)) xs (λ u. f (suc u)))
+    ≡ sum_below t.balancers (λ b. total_where (is_end (Balancer b)) xs (λ u. f (suc u))) =
+    sum-below-same t.balancers _ _ (λ u k. zero-add _) in
+    omega (arith, sum-below-front (length xs) f)
+
+-- the wires are the entries and the outputs
+pub wires-sum : (t : Table) (f : ℕ → ℕ) → IsFullFlow t f → (n : ℕ) → n ≤ t.balancers
+    → sum_below (t.entries + 2 * n) f ≡ sum_below t.entries f + sum_below n (λ b. sum_at t (Balancer b) f)
+unfolding sum_below
+wires-sum t f p zero k = let z : t.entries + 2 * 0 ≡ t.entries = omega arith in rw z (omega arith)
+wires-sum t f p (suc n) k =
+    let before = wires-sum t f p n (omega arith) in
+    let halves = p n (omega arith) in
+    let whole = half-sum (sum_at t (Balancer n) f) in
+    let m : t.entries + 2 * suc n ≡ suc (suc (t.entries + 2 * n)) = omega arith in
+    let e : t.entries + 2 * n + 1 ≡ suc (t.entries + 2 * n) = omega arith in
+    let second : f (suc (t.entries + 2 * n)) ≡ half (sum_at t (Balancer n) f) 1 = rw e at halves.1 in
+    let two : sum_below (suc (suc (t.entries + 2 * n))) f
+    ≡ sum_below (t.entries + 2 * n) f + f (t.entries + 2 * n) + f (suc (t.entries + 2 * n)) = refl in
+    rw m (omega (arith, halves.0))
+
+pub full-flow-sum : (t : Table) → IsWellFormed t → (f : ℕ → ℕ) → IsFullFlow t f
+    → sum_below t.width (λ i. sum_at t (Exit i) f) ≡ sum_below t.entries f
+full-flow-sum t w f p =
+    let a = count-twice t t.ends f w.stands in
+    let b = wires-sum t f p t.balancers (omega arith) in
+    let c : sum_below (length t.ends) f ≡ sum_below (t.entries + 2 * t.balancers) f = ap (λ n. sum_below n f) w.wires in
+    omega arith

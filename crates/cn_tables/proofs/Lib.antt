@@ -1,0 +1,8 @@
+pub mod Flow
+pub mod Conserve
+pub mod Few
+pub mod PlanFlow
+pub mod Tables
+pub mod Arrivals
+pub mod Levels
+pub mod CallerLemmas

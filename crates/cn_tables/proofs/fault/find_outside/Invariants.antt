@@ -1,0 +1,6 @@
+use Rattle.std.proofs.Common.{ℕ, ◌<◌, slice_index}
+use Rattle.cn_tables.specs.Faults.{IsWithin}
+use Rattle.cn_tables.proofs.fault.find_outside.Given as goal
+
+abbrev pub invariant-loop-place : goal.invariant-loop-place
+invariant-loop-place l = (k : ℕ) → k < l.place → IsWithin l.fn.least l.fn.most (slice_index l.counts k)

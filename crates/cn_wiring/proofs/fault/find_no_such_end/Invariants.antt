@@ -1,8 +1,0 @@
-use Rattle.std.proofs.Common.{ℕ, ◌<◌}
-use Rattle.cn_wiring.specs.Table.{Table}
-use Rattle.cn_wiring.specs.Faults.{EndStandsAt}
-use Rattle.cn_wiring.proofs.fault.find_no_such_end.Given as goal
-
-abbrev pub invariant-loop-u : goal.invariant-loop-u
-invariant-loop-u l = let t : Table = record { entries = l.fn.entries; width = l.fn.width; balancers = l.fn.balancers; ends = l.ends } in
-    (k : ℕ) → k < l.u → EndStandsAt t k

@@ -1,6 +1,0 @@
-use Rattle.std.proofs.Common.{ℕ, ◌<◌, slice_index}
-use Rattle.cn_wiring.specs.Faults.{IsWithin}
-use Rattle.cn_wiring.proofs.fault.find_outside.Given as goal
-
-abbrev pub invariant-loop-place : goal.invariant-loop-place
-invariant-loop-place l = (k : ℕ) → k < l.place → IsWithin l.fn.least l.fn.most (slice_index l.counts k)
