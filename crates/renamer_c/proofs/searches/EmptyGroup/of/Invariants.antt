@@ -1,7 +1,0 @@
-use Rattle.std.specs.Prelude.{IfSome}
-use Rattle.renamer_c.specs.Looking.{IsEmptyGroup}
-use Rattle.renamer_c.proofs.searches.EmptyGroup.of.Given as goal
-
--- the last group was empty
-abbrev pub invariant-loop-level : goal.invariant-loop-level
-invariant-loop-level l = IfSome l.empty (IsEmptyGroup (record { row = l.read.at; place = l.first }) l.state)
