@@ -14,7 +14,8 @@ ROOT = pathlib.Path(__file__).resolve().parents[2]
 HEADER = ROOT / "bindings" / "c" / "renamer.h"
 OBJECTS = HEADER.with_suffix(".hpp")
 RUST = ROOT / "bindings" / "rust"
-CRATE = ROOT / "crates" / "renamer_c" / "src"
+# The proved crates: the calls, and what handles have and statuses say.
+CRATES = [ROOT / "crates" / name / "src" for name in ("cn_handles", "renamer_c")]
 OF_C = {"uint32_t": "u32", "uint64_t": "u64", "size_t": "usize", "void": None, "const char *": "text"}
 # Only C has it: the proved crate has no texts, and the Rust crate its own.
 ONLY_IN_C = "renamer_explain"
@@ -62,7 +63,7 @@ def rust_code():
 
 
 def crate_code():
-    return "".join(code(path) for path in sorted(CRATE.glob("**/*.rt")))
+    return "".join(code(path) for path in (it for crate in CRATES for it in sorted(crate.glob("**/*.rt"))))
 
 
 def plain(name):

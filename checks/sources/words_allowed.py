@@ -4,7 +4,7 @@ import re
 ANY = 1_000_000
 # The crates of the kit that any crate may use, and those that one may.
 KIT_OF_ALL = {"clap", "csv", "indexmap", "itoa", "thiserror"}
-KIT_OF = {"cn_floor": {"atomic_table"}, "cn_walk": {"core"}, "renamer_c": {"counted_slot"}}
+KIT_OF = {"cn_floor": {"atomic_table"}, "cn_walk": {"core"}, "cn_handles": {"counted_slot"}}
 LIBRARIES = KIT_OF_ALL.union(*KIT_OF.values(), {"core", "std"})
 # Modules of std that a `use` may bring in: paths go on by their names.
 MODULES = {name: f"std::{name}" for name in ("env", "fmt", "io", "mem", "thread")}
@@ -74,7 +74,7 @@ MOST = {
                    "std::io::ErrorKind": ANY, "std::io::IsTerminal": ANY},
     "renamer": {"HostRuntime": 1, "Input": 1, "Print": 1, "std::env::Env": ANY, "std::io::writer": 1,
                 "std::process::ExitCode": ANY, "std::process::ExitCode::from": 1},
-    "renamer_c": {
+    "cn_handles": {
         # Places for lanes that were handed back, and how many are in which state.
         **{f"counted_slot::{name}": ANY for name in ("Claim", "Counted", "Fits", "FREE", "MARKED", "MOST_READERS",
                                                      "ONE_READER", "PRESENT", "TAKEN")},
@@ -93,12 +93,12 @@ MOST = {
         # Lanes and takers that are split off, and floors that open.
         ".split": 2, ".split_off": 1, "::open": 2, "::open_after": 2, "::open_words": 2, "open_for_takers": 3,
         "::opening": 1,
-        "std::ptr::null_mut": ANY, "unsafe": 5, "*mut": 7,
+        "std::ptr::null_mut": ANY, "unsafe": 5, "*mut": 7, "std::alloc::AllocFailed": ANY,
     },
 }
 # What stands so often, no more and no less, in the texts of a crate, or of a file of the library in C.
 TEXTS = {
-    "renamer_c/": {"const ROWS: usize = 26;": 1, "for at in 0..ROWS {": 2},
+    "cn_handles/": {"const ROWS: usize = 26;": 1, "for at in 0..ROWS {": 2},
     "../library": {"--redefine-sym renamer_free=": 1, "--redefine-sym renamer_free_quiet=": 1,
                    "--redefine-sym renamer_free_taker=": 1, "--redefine-sym renamer_name_many=": 1,
                    "--redefine-sym renamer_name_list=": 1, "--redefine-sym renamer_grants=": 1,
@@ -110,13 +110,17 @@ TEXTS = {
     "../bindings/c/heap.c": {"static": 2, "static char nothing;": 1, "static struct got got(": 1},
 }
 # The crates of which functions may be proved by hand: such a proof may give ghost data any value.
-BY_HAND = {"renamer_c"}
+BY_HAND = {"cn_handles"}
 # The words that stand nowhere else: what shares, waits or names anew and needs no path, as it is of the language or of
 # std's prelude.
 NOWHERE = ("extern", "forever", "macro_rules", "static", "unsafe", "*mut", "*const", "CondvarTimeouts", "Eprint",
            "HostRuntime", "Input", "LibcRuntime", "Lock", "Print", "WaitMethods")
 MACROS = {"format", "matches", "prove", "unreachable", "vec", "write", "writeln"}
 ATTRIBUTES = {"cold", "derive", "error", "inline", "repr", "tactic"}
+# How often a function of cn_handles that makes a lane, a taker or a place stands in the calls of the library: where it is
+# brought in, and where it is called.
+OF_HANDLES = {"open": 3, "open_after": 2, "open_takes": 2, "split": 2, "split_taker": 2, "hand_back": 2, "join": 2,
+              "join_all": 2, "take_back": 2, "close": 2}
 COUNTED = {*NOWHERE, *(what for row in MOST.values() for what in row)}
 
 
@@ -127,6 +131,8 @@ def is_path(what):
 
 def most(crate, what, aliases):
     """How often a crate may have a path, or a word with what stands before it."""
+    if crate == "renamer_c" and what in OF_HANDLES:
+        return OF_HANDLES[what]
     anywhere = what in PATHS or what.startswith(tuple(below for below in PATHS if below.endswith("::")))
     is_counted = what in COUNTED or what in aliases or STEP.match(what) or is_path(what) and not anywhere
     return MOST.get(crate, {}).get(what, 0 if is_counted else 1 if CALL.match(f"{crate} {what}") else ANY)

@@ -1,11 +1,11 @@
 //! How calls answer: a status, and what is asked for, written where the caller wants it.
 
 ghost use Rattle.std.specs.Prelude.{◌≡◌, ◌<◌, Err, Ok};
-ghost use Rattle.renamer_c.specs.Statuses.{status_of_refusal};
-ghost use Rattle.renamer_c.specs.declared.refusal.Refusal.{Refusal};
-ghost use Rattle.renamer_c.specs.declared.refusal.TheConstants.{DONE};
+ghost use Rattle.cn_handles.specs.Statuses.{status_of_refusal};
+ghost use Rattle.cn_handles.specs.declared.handles.refusal.Refusal.{Refusal};
+ghost use Rattle.cn_handles.specs.declared.handles.refusal.TheConstants.{DONE};
 
-use crate::refusal::{DONE, Refusal};
+use cn_handles::{DONE, Refusal};
 
 /// The status of what was done or refused.
 pub(crate) fn status(answer: Result<(), Refusal>) -> u32

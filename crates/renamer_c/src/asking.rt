@@ -2,16 +2,14 @@
 
 ghost use Rattle.std.specs.Prelude.{◌≡◌, ◌<◌, length};
 ghost use Rattle.cn_yard.specs.Lists.{tokens_in};
-ghost use Rattle.renamer_c.specs.Calls.{Answers, Reserves};
-ghost use Rattle.renamer_c.specs.Handles.{lane_in};
-ghost use Rattle.renamer_c.specs.Questions.{number_asked};
-ghost use Rattle.renamer_c.specs.Refusals.{IsRefusal, NotReserved, NotThere, WithLane};
-ghost use Rattle.renamer_c.specs.declared.refusal.TheConstants.{DONE};
+ghost use Rattle.cn_handles.specs.Calls.{Answers, Reserves};
+ghost use Rattle.cn_handles.specs.Handles.{lane_in};
+ghost use Rattle.cn_handles.specs.Questions.{number_asked};
+ghost use Rattle.cn_handles.specs.Refusals.{IsRefusal, NotReserved, NotThere, WithLane};
+ghost use Rattle.cn_handles.specs.declared.handles.refusal.TheConstants.{DONE};
 
 use crate::answer::{status, write};
-use crate::handle::Handle;
-use crate::question::Question;
-use crate::refusal::Refusal;
+use cn_handles::{Handle, Question, Refusal};
 
 /// How many clients came in, by all lanes, as far as this one can know.
 #[unsafe(no_mangle)]

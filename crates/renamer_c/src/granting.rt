@@ -1,73 +1,13 @@
-//! The grants of a lane, copied.
+//! The call that copies the grants of a lane.
 
-ghost use Rattle.std.specs.Prelude.{◌≡◌, ◌+◌, ◌<◌, ◌≤◌, length, IfErr, OnErr, OnOk};
-ghost use Rattle.renamer_c.specs.Handles.{lane_in, lane_held};
-ghost use Rattle.renamer_c.specs.Questions.{AreGrantsFrom, copy_of};
-ghost use Rattle.renamer_c.specs.Refusals.{IsRefusal, NotGranted, WithLane};
-ghost use Rattle.renamer_c.specs.declared.refusal.TheConstants.{DONE};
+ghost use Rattle.std.specs.Prelude.{◌≡◌, ◌<◌, length};
+ghost use Rattle.cn_handles.specs.Handles.{lane_in};
+ghost use Rattle.cn_handles.specs.Questions.{AreGrantsFrom};
+ghost use Rattle.cn_handles.specs.Refusals.{IsRefusal, NotGranted, WithLane};
+ghost use Rattle.cn_handles.specs.declared.handles.refusal.TheConstants.{DONE};
 
 use crate::answer::status;
-use crate::handle::Handle;
-use crate::held::Held;
-use crate::refusal::Refusal;
-
-/// A client's way out, and its name, as C sees it.
-#[repr(C)]
-#[derive(Clone, Copy)]
-pub struct Grant {
-    /// Who left.
-    pub client: u64,
-    /// The exit.
-    pub exit: u64,
-    /// How many had left by the exit before.
-    pub visit: u64,
-    /// The name.
-    pub name: u64,
-}
-
-/// A grant as C sees it.
-fn copy_of(grant: &cn_floor::Grant) -> Grant
-    ensures { result ≡ copy_of grant.now }
-{
-    Grant {
-        client: grant.client,
-        exit: u64::from(grant.exit),
-        visit: grant.visit,
-        name: grant.name,
-    }
-}
-
-/// Copies grants, from this one on.
-pub(crate) fn copy_from(grants: &[cn_floor::Grant], first: usize, copies: &mut [Grant])
-    requires { first + length copies.old ≤ length grants.now }
-    ensures count { length copies.new ≡ length copies.old }
-    ensures copied { AreGrantsFrom grants.now first copies.new }
-{
-    for i in 0..copies.len() {
-        copies[i] = copy_of(&grants[first + i]);
-    }
-}
-
-/// Copies grants of the lane, from this one on.
-///
-/// # Errors
-/// The first that stands: `Nothing`, `Size`. Then nothing has changed.
-fn copy(held: &Held, first: u64, copies: &mut [Grant]) -> Result<(), Refusal>
-    ensures ok { OnOk result
-        (WithLane (lane_held held.now) (λ l. AreGrantsFrom l.view.grants first copies.new)) }
-    ensures err { OnErr result (copies.new ≡ copies.old) }
-    ensures refused { IfErr result (NotGranted (lane_held held.now) first (length copies.old)) }
-{
-    let grants = match held.lane() {
-        Ok(lane) => lane.lane().grants(),
-        Err(refusal) => return Err(refusal),
-    };
-    if first > grants.len() as u64 || copies.len() > grants.len() - first as usize {
-        return Err(Refusal::Size);
-    }
-    copy_from(grants, first as usize, copies);
-    Ok(())
-}
+use cn_handles::{Grant, Handle, Refusal, copy_grants};
 
 /// Copies grants of the lane, in the order in which they were given, from this one on.
 #[unsafe(no_mangle)]
@@ -80,7 +20,7 @@ pub extern "C" fn renamer_grants(lane: &mut Handle, first: u64, grants: &mut [Gr
         → IsRefusal (NotGranted (lane_in lane.old.held) first (length grants.old)) result }
 {
     let answer = match lane.get_mut() {
-        Some(held) => copy(held, first, grants),
+        Some(held) => copy_grants(held, first, grants),
         None => Err(Refusal::Nothing),
     };
     status(answer)

@@ -1,14 +1,14 @@
 //! Calls that name clients.
 
-ghost use Rattle.std.specs.Prelude.{◌≡◌, ◌<◌};
-ghost use Rattle.renamer_c.specs.Calls.{Names};
-ghost use Rattle.renamer_c.specs.Handles.{lane_in};
-ghost use Rattle.renamer_c.specs.Refusals.{IsRefusal, NotNamed};
-ghost use Rattle.renamer_c.specs.declared.refusal.TheConstants.{DONE};
+ghost use Rattle.std.specs.Prelude.{◌≡◌, ◌<◌, length};
+ghost use Rattle.cn_handles.specs.Calls.{Names};
+ghost use Rattle.cn_handles.specs.Handles.{lane_in};
+ghost use Rattle.cn_handles.specs.Many.{NamesList, NamesMany};
+ghost use Rattle.cn_handles.specs.Refusals.{IsRefusal, NotNamed, NotNamedList, NotNamedMany};
+ghost use Rattle.cn_handles.specs.declared.handles.refusal.TheConstants.{DONE};
 
-use crate::answer::write;
-use crate::handle::Handle;
-use crate::refusal::Refusal;
+use crate::answer::{status, write};
+use cn_handles::{Client, Grant, Handle, Refusal, name_list, name_many};
 
 /// Names a client: lets it in by an entry and walks it out.
 #[unsafe(no_mangle)]
@@ -23,4 +23,46 @@ pub extern "C" fn renamer_name(lane: &mut Handle, client: u64, entry: u64, name:
         None => Err(Refusal::Nothing),
     };
     write(answer, name)
+}
+
+/// Names clients, those who follow one another by one entry together. Copies their grants, in the order in which they
+/// left.
+#[unsafe(no_mangle)]
+pub extern "C" fn renamer_name_many(
+    lane: &mut Handle,
+    clients: &[Client],
+    grants: &mut [Grant],
+) -> u32
+    ensures named { result ≡ DONE
+        → NamesMany (lane_in lane.old.held) (lane_in lane.new.held) clients.now grants.new }
+    ensures kept { 0 < result → (lane.new.held ≡ lane.old.held) × (grants.new ≡ grants.old) }
+    ensures refused { 0 < result
+        → IsRefusal (NotNamedMany (lane_in lane.old.held) clients.now (length grants.old)) result }
+{
+    let answer = match lane.get_mut() {
+        Some(held) => name_many(held, clients, grants),
+        None => Err(Refusal::Nothing),
+    };
+    status(answer)
+}
+
+/// Names clients who come in by one entry, together, and writes the name of each at its place in the list.
+#[unsafe(no_mangle)]
+pub extern "C" fn renamer_name_list(
+    lane: &mut Handle,
+    clients: &[u64],
+    entry: u64,
+    names: &mut [u64],
+) -> u32
+    ensures named { result ≡ DONE
+        → NamesList (lane_in lane.old.held) (lane_in lane.new.held) clients.now entry names.new }
+    ensures kept { 0 < result → (lane.new.held ≡ lane.old.held) × (names.new ≡ names.old) }
+    ensures refused { 0 < result
+        → IsRefusal (NotNamedList (lane_in lane.old.held) (length clients.now) entry (length names.old)) result }
+{
+    let answer = match lane.get_mut() {
+        Some(held) => name_list(held, clients, entry, names),
+        None => Err(Refusal::Nothing),
+    };
+    status(answer)
 }

@@ -1,20 +1,12 @@
 //! Calls that open, split and free.
 
-ghost use Rattle.std.specs.Prelude.{◌≡◌, ◌<◌, ◌≤◌, true, false, None, IfErr, IfOk, OnErr, OnOk};
-ghost use Rattle.cn_spec.specs.declared.limits.TheConstants.{MOST_CLIENTS};
-ghost use Rattle.cn_tables.specs.Widths.{IsWidth};
-ghost use Rattle.renamer_c.specs.Calls.{LieApart, Opens, Splits, number_of};
-ghost use Rattle.renamer_c.specs.Handles.{lane_in, lane_held};
-ghost use Rattle.renamer_c.specs.Refusals.{IsRefusal, NotOpened, NotSplit, WithLane};
-ghost use Rattle.renamer_c.specs.declared.refusal.TheConstants.{DONE};
+ghost use Rattle.std.specs.Prelude.{◌≡◌, ◌<◌, true, false, None};
+ghost use Rattle.cn_handles.specs.Calls.{LieApart, Opens, OpensAfter, Splits};
+ghost use Rattle.cn_handles.specs.Handles.{lane_in, record_in};
+ghost use Rattle.cn_handles.specs.Refusals.{IsRefusal, NotOpened, NotOpenedAfter, NotSplit, WithLane};
+ghost use Rattle.cn_handles.specs.declared.handles.refusal.TheConstants.{DONE};
 
-use crate::handle::Handle;
-use crate::held::Held;
-use crate::held_lane::HeldLane;
-use crate::refusal::{DONE, Refusal};
-use cn_nets::Net;
-use cn_spec::limits::MOST_CLIENTS;
-use cn_tables::Kind;
+use cn_handles::{DONE, Handle, Refusal, open, open_after, split};
 use std::alloc::Global;
 
 /// The version: 1,000,000 times the major number, 1,000 times the minor one, and the patch, added.
@@ -23,50 +15,6 @@ pub extern "C" fn renamer_version() -> u32
     ensures { result ≡ 1000000 }
 {
     1_000_000
-}
-
-/// What network is asked for.
-///
-/// # Errors
-/// The first that stands: `Kind`, `Width`, `Quota`.
-pub(crate) fn asked(kind: u32, width: u32, quota: u64) -> Result<Net, Refusal>
-    ensures ok { IfOk result (λ net. (number_of net.kind ≡ kind) × (net.width ≡ width)) }
-    ensures known { OnOk result ((kind ≤ 2) × IsWidth width × (quota ≤ MOST_CLIENTS)) }
-    ensures err { IfErr result (NotOpened kind width quota) }
-{
-    let kind = match kind {
-        0 => Kind::Bitonic,
-        1 => Kind::Periodic,
-        2 => Kind::Tree,
-        _ => return Err(Refusal::Kind),
-    };
-    let Ok(net) = Net::new(kind, width) else {
-        return Err(Refusal::Width);
-    };
-    if quota > MOST_CLIENTS {
-        return Err(Refusal::Quota);
-    }
-    Ok(net)
-}
-
-/// A floor over the network of this kind and width, whose words lie apart or not, and its first lane, in a box.
-///
-/// # Errors
-/// The first that stands: `Kind`, `Width`, `Quota`, `Memory`.
-fn open(alloc: Global, kind: u32, width: u32, quota: u64, apart: bool) -> Result<Box<Held>, Refusal>
-    ensures ok { IfOk result (λ b. Opens (lane_held b.value) kind width quota) }
-    ensures spaced { IfOk result (λ b. WithLane (lane_held b.value) (LieApart apart)) }
-    ensures err { IfErr result (NotOpened kind width quota) }
-{
-    let net = asked(kind, width, quota)?;
-    let Ok(network) = net.build(alloc) else {
-        return Err(Refusal::Memory);
-    };
-    let lane = HeldLane::open(alloc, network, quota, apart)?;
-    match Box::new(alloc, Held::Lane(lane)) {
-        Ok(held) => Ok(held),
-        Err(_) => Err(Refusal::Memory),
-    }
 }
 
 /// Opens a floor over the network of this kind and width, with a lane that has the whole quota.
@@ -115,27 +63,31 @@ pub extern "C" fn renamer_open_apart(
     }
 }
 
-/// Splits off a lane with some of the quota, in a box.
-///
-/// # Errors
-/// The first that stands: `Nothing`, `QuotaTooSmall`, `Memory`. Then nothing has changed.
-fn split(alloc: Global, held: &mut Held, quota: u64) -> Result<Box<Held>, Refusal>
-    ensures ok { IfOk result (λ b.
-        Splits (lane_held held.old) (lane_held held.new) (lane_held b.value) quota) }
-    ensures err { OnErr result (held.new ≡ held.old) }
-    ensures refused { IfErr result (NotSplit (lane_held held.old) quota) }
+/// Opens a floor that goes on from the words of a closed one.
+#[unsafe(no_mangle)]
+pub extern "C" fn renamer_open_after(
+    alloc: Global,
+    lane: &mut Handle,
+    quiet: &mut Handle,
+    quota: u64,
+) -> u32
+    ensures opened { result ≡ DONE
+        → OpensAfter (record_in quiet.old.held) (lane_in lane.new.held) quota }
+    ensures quiet { quiet.new.held ≡ quiet.old.held }
+    ensures kept { 0 < result → lane.new.held ≡ lane.old.held }
+    ensures refused { 0 < result → IsRefusal (NotOpenedAfter (record_in quiet.old.held) quota) result }
 {
-    let Held::Lane(lane) = held else {
-        return Err(Refusal::Nothing);
+    let opened = match quiet.get_mut() {
+        Some(held) => open_after(alloc, held, quota),
+        None => Err(Refusal::Nothing),
     };
-    if quota > lane.lane().quota() {
-        return Err(Refusal::QuotaTooSmall);
+    match opened {
+        Ok(opened) => {
+            lane.put(opened);
+            DONE
+        }
+        Err(refusal) => refusal.status(),
     }
-    let Ok(mut other) = Box::new(alloc, Held::Nothing) else {
-        return Err(Refusal::Memory);
-    };
-    *other = Held::Lane(lane.split(alloc, quota)?);
-    Ok(other)
 }
 
 /// Splits off another lane with some of the quota.

@@ -1,31 +1,13 @@
 //! Calls that read what a closed floor left.
 
-ghost use Rattle.std.specs.Prelude.{◌≡◌, ◌<◌, length, IfErr, IfOk, OnErr, OnOk};
-ghost use Rattle.renamer_c.specs.Handles.{record_in, record_held};
-ghost use Rattle.renamer_c.specs.Records.{list_of};
-ghost use Rattle.renamer_c.specs.Refusals.{IsRefusal, NotCopied, NotThere, WithRecord};
-ghost use Rattle.renamer_c.specs.declared.refusal.TheConstants.{DONE};
+ghost use Rattle.std.specs.Prelude.{◌≡◌, ◌<◌, length};
+ghost use Rattle.cn_handles.specs.Handles.{record_in};
+ghost use Rattle.cn_handles.specs.Records.{list_of};
+ghost use Rattle.cn_handles.specs.Refusals.{IsRefusal, NotCopied, NotThere, WithRecord};
+ghost use Rattle.cn_handles.specs.declared.handles.refusal.TheConstants.{DONE};
 
 use crate::answer::{status, write};
-use crate::floor_record::RecordList;
-use crate::handle::Handle;
-use crate::held::Held;
-use crate::refusal::Refusal;
-
-/// How long a list of the record is.
-///
-/// # Errors
-/// `Nothing` if there is no record.
-fn size_of(held: &Held, which: RecordList) -> Result<u64, Refusal>
-    ensures ok { IfOk result (λ n.
-        WithRecord (record_held held.now) (λ r. n ≡ length (list_of which r))) }
-    ensures refused { IfErr result (NotThere (record_held held.now)) }
-{
-    match held.record() {
-        Ok(closed) => Ok(closed.list(which).len() as u64),
-        Err(refusal) => Err(refusal),
-    }
-}
+use cn_handles::{Handle, RecordList, Refusal, copy_list, list_size};
 
 /// Asks how long a list of the record is.
 fn ask_size(quiet: &mut Handle, which: RecordList, size: &mut u64) -> u32
@@ -36,30 +18,10 @@ fn ask_size(quiet: &mut Handle, which: RecordList, size: &mut u64) -> u32
     ensures refused { 0 < result → IsRefusal (NotThere (record_in quiet.old.held)) result }
 {
     let answer = match quiet.get_mut() {
-        Some(held) => size_of(held, which),
+        Some(held) => list_size(held, which),
         None => Err(Refusal::Nothing),
     };
     write(answer, size)
-}
-
-/// Copies a list of the record.
-///
-/// # Errors
-/// The first that stands: `Nothing`, `Size`. Then nothing has changed.
-fn copy(held: &Held, which: RecordList, to: &mut [u64]) -> Result<(), Refusal>
-    ensures ok { OnOk result (WithRecord (record_held held.now) (λ r. to.new ≡ list_of which r)) }
-    ensures err { OnErr result (to.new ≡ to.old) }
-    ensures refused { IfErr result (NotCopied (record_held held.now) which (length to.old)) }
-{
-    let list = match held.record() {
-        Ok(closed) => closed.list(which),
-        Err(refusal) => return Err(refusal),
-    };
-    if list.len() != to.len() {
-        return Err(Refusal::Size);
-    }
-    to.copy_from_slice(list);
-    Ok(())
 }
 
 /// Copies a list of the record.
@@ -72,7 +34,7 @@ fn ask_list(quiet: &mut Handle, which: RecordList, to: &mut [u64]) -> u32
         → IsRefusal (NotCopied (record_in quiet.old.held) which (length to.old)) result }
 {
     let answer = match quiet.get_mut() {
-        Some(held) => copy(held, which, to),
+        Some(held) => copy_list(held, which, to),
         None => Err(Refusal::Nothing),
     };
     status(answer)

@@ -2,16 +2,14 @@
 
 ghost use Rattle.std.specs.Prelude.{◌≡◌, ◌<◌};
 ghost use Rattle.cn_yard.specs.Lists.{IsLowest};
-ghost use Rattle.renamer_c.specs.Handles.{lane_in};
-ghost use Rattle.renamer_c.specs.Moves.{EntersBy, Steps};
-ghost use Rattle.renamer_c.specs.Refusals.{IsRefusal, NoLowestWire, NobodyOn, NotEntered, WithLane};
-ghost use Rattle.renamer_c.specs.Sweepings.{Sweeps};
-ghost use Rattle.renamer_c.specs.declared.refusal.TheConstants.{DONE};
+ghost use Rattle.cn_handles.specs.Handles.{lane_in};
+ghost use Rattle.cn_handles.specs.Moves.{EntersBy, Steps};
+ghost use Rattle.cn_handles.specs.Refusals.{IsRefusal, NoLowestWire, NobodyOn, NotEntered, WithLane};
+ghost use Rattle.cn_handles.specs.Sweepings.{Sweeps};
+ghost use Rattle.cn_handles.specs.declared.handles.refusal.TheConstants.{DONE};
 
 use crate::answer::{status, write};
-use crate::handle::Handle;
-use crate::moved::{Moved, Swept};
-use crate::refusal::Refusal;
+use cn_handles::{Handle, Moved, Refusal, Swept};
 
 /// Lets a client in by an entry: it stands last on the wire with the entry's number.
 #[unsafe(no_mangle)]

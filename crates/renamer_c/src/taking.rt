@@ -1,39 +1,14 @@
 //! Calls of takers, which take names of a floor that keeps no list of them.
 
-ghost use Rattle.std.specs.Prelude.{◌≡◌, ◌<◌, length, None, IfErr, IfOk, OnErr, OnOk};
-ghost use Rattle.renamer_c.specs.Handles.{taker_held, taker_in};
-ghost use Rattle.renamer_c.specs.Refusals.{IsRefusal, NotOpened, NotThere};
-ghost use Rattle.renamer_c.specs.Taking.{LieBy, NotSplitOff, NotTaken, OpensTakes, SplitsTaker, Takes, TakesMany, Tells, WithTaker};
-ghost use Rattle.renamer_c.specs.declared.refusal.TheConstants.{DONE};
+ghost use Rattle.std.specs.Prelude.{◌≡◌, ◌<◌, length, None};
+ghost use Rattle.cn_handles.specs.Handles.{taker_in};
+ghost use Rattle.cn_handles.specs.Refusals.{IsRefusal, NotOpened, NotThere};
+ghost use Rattle.cn_handles.specs.Taking.{LieBy, NotSplitOff, NotTaken, OpensTakes, SplitsTaker, Takes, TakesMany, Tells, WithTaker};
+ghost use Rattle.cn_handles.specs.declared.handles.refusal.TheConstants.{DONE};
 
 use crate::answer::{status, write};
-use crate::handle::Handle;
-use crate::held::Held;
-use crate::held_taker::HeldTaker;
-use crate::opening::asked;
-use crate::refusal::{DONE, Refusal};
+use cn_handles::{DONE, Handle, Refusal, open_takes, split_taker, take_many};
 use std::alloc::Global;
-
-/// A floor over the network of this kind and width, whose words lie side by side (0) or apart, and its first taker, in
-/// a box.
-///
-/// # Errors
-/// The first that stands: `Kind`, `Width`, `Memory`.
-fn open(alloc: Global, kind: u32, width: u32, apart: u32) -> Result<Box<Held>, Refusal>
-    ensures ok { IfOk result (λ b. OpensTakes (taker_held b.value) kind width) }
-    ensures spaced { IfOk result (λ b. WithTaker (taker_held b.value) (LieBy apart)) }
-    ensures err { IfErr result (NotOpened kind width 0) }
-{
-    let net = asked(kind, width, 0)?;
-    let Ok(network) = net.build(alloc) else {
-        return Err(Refusal::Memory);
-    };
-    let taker = HeldTaker::open(alloc, network, apart)?;
-    match Box::new(alloc, Held::Taker(taker)) {
-        Ok(held) => Ok(held),
-        Err(_) => Err(Refusal::Memory),
-    }
-}
 
 /// Opens a floor over the network of this kind and width, with a taker that has all its names. It is refused as a floor
 /// with the quota 0 is, which is never too much.
@@ -50,37 +25,13 @@ pub extern "C" fn renamer_open_takes(
     ensures kept { 0 < result → taker.new.held ≡ taker.old.held }
     ensures refused { 0 < result → IsRefusal (NotOpened kind width 0) result }
 {
-    match open(alloc, kind, width, apart) {
+    match open_takes(alloc, kind, width, apart) {
         Ok(held) => {
             taker.put(held);
             DONE
         }
         Err(refusal) => refusal.status(),
     }
-}
-
-/// Splits off a taker, in a box.
-///
-/// # Errors
-/// The first that stands: `Nothing`, `QuotaTooSmall`, `Memory`. Then nothing has changed.
-fn split(alloc: Global, held: &mut Held) -> Result<Box<Held>, Refusal>
-    ensures ok { IfOk result (λ b.
-        SplitsTaker (taker_held held.old) (taker_held held.new) (taker_held b.value)) }
-    ensures err { OnErr result (held.new ≡ held.old) }
-    ensures refused { IfErr result (NotSplitOff (taker_held held.old)) }
-{
-    let Held::Taker(taker) = held else {
-        return Err(Refusal::Nothing);
-    };
-    let quota = taker.quota_for_another();
-    if quota == 0 {
-        return Err(Refusal::QuotaTooSmall);
-    }
-    let Ok(mut other) = Box::new(alloc, Held::Nothing) else {
-        return Err(Refusal::Memory);
-    };
-    *other = Held::Taker(taker.split(quota)?);
-    Ok(other)
 }
 
 /// Splits off another taker.
@@ -92,7 +43,7 @@ pub extern "C" fn renamer_split_taker(alloc: Global, taker: &mut Handle, other: 
     ensures refused { 0 < result → IsRefusal (NotSplitOff (taker_in taker.old.held)) result }
 {
     let second = match taker.get_mut() {
-        Some(held) => split(alloc, held),
+        Some(held) => split_taker(alloc, held),
         None => Err(Refusal::Nothing),
     };
     match second {
@@ -117,22 +68,6 @@ pub extern "C" fn renamer_take(taker: &mut Handle, entry: u64, name: &mut u64) -
         None => Err(Refusal::Nothing),
     };
     write(answer, name)
-}
-
-/// Takes a name for each place of a list.
-///
-/// # Errors
-/// The first that stands: `Nothing`, `NoSuchEntry`, `QuotaSpent`. Then nothing has changed.
-fn take_many(held: &mut Held, entry: u64, names: &mut [u64]) -> Result<(), Refusal>
-    ensures ok { OnOk result
-        (TakesMany (taker_held held.old) (taker_held held.new) names.old entry names.new) }
-    ensures err { OnErr result ((held.new ≡ held.old) × (names.new ≡ names.old)) }
-    ensures refused { IfErr result (NotTaken (taker_held held.old) entry (length names.old)) }
-{
-    match held {
-        Held::Taker(taker) => taker.take_many(entry, names),
-        _ => Err(Refusal::Nothing),
-    }
 }
 
 /// Takes a name for each place of a list: all clients on a wire go on by one atomic step.

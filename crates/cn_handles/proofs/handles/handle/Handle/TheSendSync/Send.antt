@@ -1,0 +1,44 @@
+-- A handle may cross threads, as what it holds may.
+use Rattle.std.proofs.Common.{Option, None, Some}
+use mir.Raw.{raw}
+use base.Fraction.{full_share}
+use base.Shift.{Keyless}
+use denote.Exit.{Exit, unchanged, leaves, hidden, under}
+use denote.RattleType.{RattleType}
+use denote.Memory.{lone}
+use denote.RawPtr.{Ptr, block_ptr, null_ptr, lies_at}
+use denote.Param.Send.{IsSend, AllSend, Quiet, part_keyless, owning_send, struct_send, sendable}
+use denote.Struct.Struct.{exits_of}
+use denote.Struct.Owning.{shape, fields, to}
+use Rattle.std.specs.declared.alloc.Global.{Global}
+use Rattle.std.proofs.alloc.Global.TheSendSync as heap
+use Rattle.std.proofs.Crossing.{frees}
+use Rattle.cn_handles.specs.Holding as held
+use Rattle.cn_handles.specs.Holding.{holds}
+use Rattle.cn_handles.proofs.handles.floor_record.FloorRecord.TheSendSync as record_crosses
+use Rattle.cn_handles.proofs.handles.held.Held.TheSendSync as held_crosses
+use Rattle.cn_handles.proofs.handles.held_lane.HeldLane.TheSendSync as lane_crosses
+use Rattle.cn_handles.proofs.handles.held_taker.HeldTaker.TheSendSync as taker_crosses
+use Rattle.cn_handles.specs.contracts.handles.handle.Handle.{the_row, the_type}
+
+quiet : {D X : Type 0} (to : D → X) (e : Exit X) → Quiet e → Quiet (hidden (under to e))
+quiet to unchanged q = λ x w. tt
+quiet to (leaves L l S s r₀) q = λ d. q (to d)
+
+lies : (R : RattleType) → IsSend R → (p : Ptr) (x : R.Denot) → Keyless (lies_at R full_share p x)
+lies R s (block_ptr b o) x = part_keyless R s full_share x b o
+lies R s null_ptr x = tt
+
+held_keyless : (a : Global) (p : Ptr) (x : Option (held.the_row).Denot) → Keyless (holds held.the_row a p x)
+held_keyless a p None = tt
+held_keyless a p (Some x) = (
+  lies held.the_row
+      (held_crosses.the_send _ _ _ lane_crosses.the_send record_crosses.the_send taker_crosses.the_send) p x,
+  frees.frees a (raw (lone (held.the_row).mir)) p,
+)
+
+pub send : IsSend the_row
+send =
+    let all : AllSend (fields the_type) = (search sendable, (heap.the_field_send, tt)) in
+    owning_send the_type all (λ d. held_keyless d.alloc d.at d.held)
+    (λ k. quiet (to the_type) (exits_of k (fields the_type)) ((struct_send (shape the_type) all).leaving k))

@@ -1,0 +1,7 @@
+use Rattle.std.specs.Prelude.{◌≡◌, length}
+use Rattle.cn_handles.specs.Placing.{AreTagsOf}
+use Rattle.cn_handles.proofs.places.row.Row.new.Given as goal
+
+-- the places so far are for lanes of the floor
+abbrev pub invariant-loop-place : goal.invariant-loop-place
+invariant-loop-place l = AreTagsOf l.floor l.places.items × (length l.places.items ≡ l.place)

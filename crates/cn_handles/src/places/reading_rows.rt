@@ -1,0 +1,165 @@
+//! Rows of places that are made and read. Of what was seen of a row only this file makes a value, by its load or its
+//! exchange, and nothing copies one.
+
+ghost use Rattle.std.specs.Arc.{arc_value};
+ghost use Rattle.std.specs.Prelude.{◌≡◌, ◌<◌, ◌≤◌, IfErr, IfOk, length};
+ghost use Rattle.cn_handles.specs.Looking.{IsNoRow};
+ghost use Rattle.cn_handles.specs.Placing.{IsPlaceOf, IsSharedRowOf, row_size};
+
+use crate::places::place::{Place, Spot};
+use crate::places::row::{Counts, Row, SharedRow};
+use crate::places::{FloorWithPlaces, ROWS};
+use cn_floor::Floor;
+use counted_slot::{Counted, FREE, MOST_READERS, ONE_READER, PRESENT, TAKEN};
+
+/// Space for a row of places, and how many of these are in which state. Nobody writes a row that is made (`PRESENT`).
+#[derive(Drop)]
+pub(crate) struct RowSlot {
+    pub(crate) row: Counted<Option<SharedRow>>,
+    pub(crate) counts: Counts,
+}
+
+/// How often is looked again because another thread read a row then: for centuries.
+const MOST_LOOKS: u64 = u64::MAX;
+
+/// A row that was read.
+#[derive(Drop)]
+pub(crate) struct ReadRow {
+    at: usize,
+    shared: SharedRow,
+}
+
+/// Why a row was not read: its word, after so many looks, or that it has too many owners.
+#[derive(Drop)]
+pub(crate) struct Unread {
+    at: usize,
+    word: u64,
+    looks: u64,
+    full: bool,
+}
+
+impl ReadRow {
+    /// The row.
+    pub(crate) fn row(&self) -> &Row
+        ensures { result.now ≡ arc_value self.now.shared.row }
+    {
+        &self.shared.row
+    }
+
+    /// The number of the row, with that of a place there.
+    pub(crate) fn spot(&self, place: usize) -> Spot
+        ensures { result ≡ record { row = self.now.at; place = place } }
+    {
+        Spot {
+            row: self.at,
+            place,
+        }
+    }
+
+    /// One of its places, for its taker.
+    pub(crate) fn into_place(self, floor: &Floor<'static>, place: usize) -> Place
+        requires row { IsSharedRowOf floor.now self.shared × (self.at < 26) }
+        requires place { place < length (arc_value self.shared.row).places.items }
+        ensures { IsPlaceOf floor.now result }
+    {
+        // Only the contract reads it: whose lanes stand there.
+        let _ = floor;
+        let ReadRow { at: row, shared } = self;
+        Place::of(shared, Spot { row, place })
+    }
+}
+
+/// Reads a row: a compare-exchange counts a reader more, until the row has an owner more. No thread that is stopped
+/// keeps another from it.
+///
+/// # Errors
+/// If it was not made, or cannot be read.
+pub(crate) fn read_row(floor: &FloorWithPlaces, at: usize) -> Result<ReadRow, Unread>
+    requires { at < 26 }
+    ensures ok { IfOk result (λ row. (row.at ≡ at) × IsSharedRowOf floor.now row.shared) }
+    ensures err { IfErr result (IsNoRow at) }
+{
+    let slot = floor.slot(at);
+    let mut word = slot.row.load();
+    let mut full = false;
+    for looks in 0..MOST_LOOKS {
+        if full || word % 4 != PRESENT || word / ONE_READER >= MOST_READERS {
+            return Err(Unread {
+                at,
+                word,
+                looks,
+                full,
+            });
+        }
+        let (found, claim) = slot.row.turn(word, word + ONE_READER);
+        if found == word {
+            let shared = match claim.get() {
+                Some(shared) => shared.another_owner().ok(),
+                None => None,
+            };
+            claim.leave();
+            match shared {
+                Some(shared) => return Ok(ReadRow { at, shared }),
+                None => full = true,
+            }
+        } else {
+            claim.done();
+        }
+        word = found;
+    }
+    Err(Unread {
+        at,
+        word,
+        looks: MOST_LOOKS,
+        full,
+    })
+}
+
+/// The first of the rows that were not made, as far as the last row.
+#[derive(Drop)]
+pub(crate) struct Unmade {
+    from: usize,
+}
+
+impl Unmade {
+    /// Looks from the first row on: a row is made only if that before it was, so none is made after one that is free.
+    pub(crate) fn of(floor: &FloorWithPlaces) -> Unmade
+        ensures { result.from ≤ 26 }
+    {
+        for from in 0..ROWS {
+            if is_free(floor, from) {
+                return Unmade { from };
+            }
+        }
+        Unmade { from: ROWS }
+    }
+
+    /// Its number.
+    pub(crate) fn from(&self) -> usize
+        ensures { result ≡ self.now.from }
+    {
+        self.from
+    }
+}
+
+/// Whether a row was not made.
+pub(crate) fn is_free(floor: &FloorWithPlaces, at: usize) -> bool
+    requires { at < 26 }
+{
+    floor.slot(at).row.load() == FREE
+}
+
+/// Makes a row, unless another thread made it. Returns whether it did.
+pub(crate) fn make_row(floor: &FloorWithPlaces, at: usize, shared: SharedRow) -> bool
+    requires at { at < 26 }
+    requires row { IsSharedRowOf floor.now shared }
+    requires size { length (arc_value shared.row).places.items ≡ row_size at }
+{
+    let (found, claim) = floor.slot(at).row.turn(FREE, TAKEN);
+    if found == FREE {
+        let _ = claim.put(Some(shared), PRESENT);
+    } else {
+        claim.done();
+    }
+    found == FREE
+}

@@ -1,7 +1,0 @@
-use Rattle.std.specs.Prelude.{◌≤◌}
-use Rattle.renamer_c.specs.Looking.{GoesOn, IsWithin}
-use Rattle.renamer_c.proofs.floor_with_places.FloorWithPlaces.search.Given as goal
-
--- it passed so many rows at least, and none of them had one
-abbrev pub invariant-loop-passed : goal.invariant-loop-passed
-invariant-loop-passed l = GoesOn 0 l.fn.search l.search × IsWithin l.search × (l.passed ≤ l.search.on.row)

@@ -1,7 +1,0 @@
-use Rattle.std.specs.Prelude.{◌≡◌, length}
-use Rattle.renamer_c.specs.Placing.{AreSlotsOf}
-use Rattle.renamer_c.proofs.floor_with_places.no_rows.Given as goal
-
--- the rows so far are for lanes of the floor
-abbrev pub invariant-loop-at : goal.invariant-loop-at
-invariant-loop-at l = AreSlotsOf l.floor l.slots.items × (length l.slots.items ≡ l.at)

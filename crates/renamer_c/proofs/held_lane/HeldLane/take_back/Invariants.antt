@@ -1,6 +1,0 @@
-use Rattle.std.specs.Prelude.{◌≡◌}
-use Rattle.renamer_c.proofs.held_lane.HeldLane.take_back.Given as goal
-
--- so many lanes with nothing were let go
-abbrev pub invariant-loop-met : goal.invariant-loop-met
-invariant-loop-met l = l.gone.number ≡ l.met

@@ -1,7 +1,0 @@
-use Rattle.std.specs.Prelude.{◌≡◌, length}
-use Rattle.renamer_c.specs.Placing.{AreTagsOf}
-use Rattle.renamer_c.proofs.row.Row.new.Given as goal
-
--- the places so far are for lanes of the floor
-abbrev pub invariant-loop-place : goal.invariant-loop-place
-invariant-loop-place l = AreTagsOf l.floor l.places.items × (length l.places.items ≡ l.place)

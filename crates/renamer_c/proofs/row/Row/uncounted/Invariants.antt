@@ -1,6 +1,0 @@
-use Rattle.std.specs.Prelude.{◌≡◌, ◌+◌}
-use Rattle.renamer_c.proofs.row.Row.uncounted.Given as goal
-
--- none was counted in the groups so far
-abbrev pub invariant-loop-at : goal.invariant-loop-at
-invariant-loop-at l = (l.group + l.groups ≡ l.at) × (l.number ≡ 0)

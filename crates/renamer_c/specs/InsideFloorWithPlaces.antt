@@ -1,9 +1,0 @@
--- What a floor keeps with its places for lanes.
-use Rattle.std.specs.Prelude.{◌≡◌, length}
-use Rattle.renamer_c.specs.Placing.{AreSlotsOf}
-use Rattle.renamer_c.specs.declared.floor_with_places.FloorWithPlaces.TheInside.{Inside}
-
--- each row of places is for lanes of this floor, and there is space for so many
-pub record IsFloorWithPlaces (g : Inside) : Type 0 where
-  pub rows : AreSlotsOf g.floor g.slots.items
-  pub many : length g.slots.items ≡ 26

@@ -1,8 +1,0 @@
--- What a taker with its share of its floor keeps.
-use Rattle.std.specs.Arc.{arc_value}
-use Rattle.std.specs.Prelude.{◌≡◌}
-use Rattle.renamer_c.specs.declared.held_taker.HeldTaker.TheInside.{Inside}
-
--- its floor is that of the taker
-pub record IsHeldTaker (h : Inside) : Type 0 where
-  pub own : arc_value h.floor ≡ h.taker.home
