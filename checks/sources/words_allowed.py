@@ -61,7 +61,7 @@ MOST = {
     "cn_renamer": {"join_mut": 2, ".split": 1,
                    # A fault's line, which is made before it is written.
                    "std::io::Cursor": ANY},
-    "cn_report": {".add": 2, "::open": 1, ".open_epoch": 2, "::swap": 1, ".resize": 1,
+    "cn_texts": {".add": 2, "::open": 1, ".open_epoch": 2, "::swap": 1, ".resize": 1,
                   ".extend_from_slice": 1},
     "cn_bitonic": {".to_vec": 1},
     "cn_periodic": {".to_vec": 1},

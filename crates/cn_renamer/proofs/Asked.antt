@@ -2,14 +2,13 @@
 use Rattle.std.proofs.Common.{◌≡◌, ℕ, ap, inl, inr, List, Bool, Option, Some, None}
 use Rattle.std.specs.Prelude.{is_some}
 use Rattle.std.proofs.lemmas.Bool.{cases_eq}
-use Rattle.cn_report.proofs.CallerLemmas.{known-map}
-use Rattle.cn_report.specs.Writing.Written.{HasWritten, Written}
+use Rattle.cn_texts.proofs.CallerLemmas.{known-map, written-map}
+use Rattle.cn_texts.specs.Writing.Written.{HasWritten, Written}
 use Rattle.cn_cli.specs.Options.{Settings}
 use Rattle.cn_cli.specs.declared.words.Job.TheVariants as job
 use Rattle.cn_renamer.specs.Headline.{IsRunInOrder, IsRunInOrderOfKnown, IsRunOf, IsRunOfKnown}
 use Rattle.cn_renamer.specs.Performing.{IsTextOf}
 use Rattle.cn_renamer.specs.Running.{walkers, walkers_asked, walkers_by}
-use Rattle.cn_renamer.proofs.Headline.{written-as}
 
 -- a gate makes all workers walk each epoch, and without one one does
 pub walkers-as-asked : {G : Type 0} (gate : Option G) (options : Settings) → is_some gate ≡ options.together
@@ -29,14 +28,14 @@ run-as-asked contents old new options known written ran ordered =
     let Ordered : List ℕ → Type 0 = IsRunInOrderOfKnown options.net options.form options.carry options.large known in
     let Asked : List ℕ → Type 0 = IsTextOf (job.Run options) known in
     elim (cases_eq (walkers_asked options) 1) [
-      | inr several ↦ written-as contents old new Run Asked (λ text is. (is, λ one _. absurd (several one))) written ran
+      | inr several ↦ written-map contents Run Asked written old new (λ text is. (is, λ one _. absurd (several one))) ran
       | inl one ↦
           elim (cases_eq options.hand 1) [
-            | inr other ↦ written-as contents old new Run Asked (λ text is. (is, λ _ hand. absurd (other hand))) written ran
+            | inr other ↦ written-map contents Run Asked written old new (λ text is. (is, λ _ hand. absurd (other hand))) ran
             | inl hand ↦
-                written-as contents old new Ordered Asked (λ text is.
+                written-map contents Ordered Asked written old new (λ text is.
                 let run = known-map known (λ bytes. IsRunInOrder options.net options.form options.carry options.large bytes text)
                 (λ bytes. IsRunOf options.net options.form options.carry options.large bytes text) is (λ bytes it. it.run) in
-                (run, λ _ _. is)) written (ordered one hand)
+                (run, λ _ _. is)) (ordered one hand)
           ]
     ]

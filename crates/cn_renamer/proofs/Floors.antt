@@ -14,10 +14,10 @@ use Rattle.cn_floor.specs.Ends.{ListsHolders, QuietValue}
 use Rattle.cn_walk.specs.Runner.{RunnerValue, next_runner, next_words}
 use Rattle.cn_walk.specs.Runs.{IsRunAfter}
 use Rattle.cn_walk.specs.declared.crew.Crew.{Crew}
-use Rattle.cn_report.specs.Reading.Bounds.{bounds_of}
-use Rattle.cn_report.specs.Reading.Batch.{MayCome, clients_of_epochs}
-use Rattle.cn_report.specs.declared.reading.batch.BatchEpoch.{BatchEpoch}
-use Rattle.cn_report.specs.Writing.EpochRecords.{AreRecordsOf}
+use Rattle.cn_texts.specs.Reading.Bounds.{bounds_of}
+use Rattle.cn_texts.specs.Reading.Batch.{MayCome, clients_of_epochs}
+use Rattle.cn_texts.specs.declared.reading.batch.BatchEpoch.{BatchEpoch}
+use Rattle.cn_texts.specs.Writing.EpochRecords.{AreRecordsOf}
 use Rattle.cn_renamer.specs.Floors.{AreOfRunner, HaveWalked, IsOfFloor, WalkedOn, runner_after}
 use Rattle.cn_renamer.specs.Headline.{AreServed, ids_of}
 use Rattle.cn_renamer.specs.Running.{of_one_worker}

@@ -19,8 +19,8 @@ use Rattle.cn_core.specs.State.{start}
 use Rattle.cn_epoch.specs.Calls.{TakesCommandTo}
 use Rattle.cn_epoch.specs.History.{ByEpochHistories, Epochs, EpochsAgree, history_by_commands, turns_by}
 use Rattle.cn_epoch.specs.Turns.{IsTightRecord}
-use Rattle.cn_report.specs.Writing.Replay.{AreAnswers, Fits, IsShowable, answer_line, counts_or_shares, replay_text}
-use Rattle.cn_report.proofs.CallerLemmas.{lines-by}
+use Rattle.cn_texts.specs.Writing.Replay.{AreAnswers, Fits, IsShowable, answer_line, counts_or_shares, replay_text}
+use Rattle.cn_texts.proofs.CallerLemmas.{lines-by}
 use Rattle.cn_renamer.specs.Replay.{AreAnsweredAs, IsKept, IsReplayText, IsWithoutCounts}
 
 shares-many : (w k : ℕ) → length (shares_after 0 k w) ≡ w

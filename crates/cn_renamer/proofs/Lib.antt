@@ -1,11 +1,7 @@
-pub mod Accepted
 pub mod Asked
 pub mod Built
 pub mod Floors
-pub mod Headline
-pub mod InOrder
 pub mod Kept
-pub mod OneText
 pub mod Refused
 pub mod Replies
 pub mod Running

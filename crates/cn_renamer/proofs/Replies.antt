@@ -17,7 +17,7 @@ use Rattle.cn_ledger.specs.declared.answer.Answer.TheVariants.{Replied, Turned, 
 use Rattle.cn_ledger.specs.declared.command.Command.{Command}
 use Rattle.cn_ledger.specs.declared.command.Command.TheVariants.{Enter, Step, Turn}
 use Rattle.cn_epoch.specs.History.{MayAnswerCommand, MayAnswerCommands, history_after_command, kept_after, turns_after, earlier_in}
-use Rattle.cn_report.specs.Writing.Replay.{AreAnswers, Fits, IsEnterReply, IsStepReply}
+use Rattle.cn_texts.specs.Writing.Replay.{AreAnswers, Fits, IsEnterReply, IsStepReply}
 
 -- ---- a reply by history fits its event
 

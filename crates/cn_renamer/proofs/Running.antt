@@ -14,20 +14,19 @@ use Rattle.cn_floor.specs.Carried.{zero_words}
 use Rattle.cn_floor.specs.Ends.{QuietValue}
 use Rattle.cn_floor.proofs.CallerLemmas.{none-came}
 use Rattle.cn_walk.specs.declared.crew.Crew.{Crew}
-use Rattle.cn_report.specs.Reading.Bounds.{bounds_of}
-use Rattle.cn_report.specs.Reading.Batch.{AreServable, IsBatch, MayCome, clients_of_epochs}
-use Rattle.cn_report.specs.Reading.Records.{records_of}
-use Rattle.cn_report.specs.declared.reading.batch.BatchEpoch.{BatchEpoch}
-use Rattle.cn_report.specs.Writing.EpochRecords.{AreRecordsOf}
-use Rattle.cn_report.specs.Writing.Written.{HasWritten, Written}
-use Rattle.cn_report.proofs.CallerLemmas.{known-map}
+use Rattle.cn_texts.specs.Reading.Bounds.{bounds_of}
+use Rattle.cn_texts.specs.Reading.Batch.{AreServable, IsBatch, MayCome, clients_of_epochs}
+use Rattle.cn_texts.specs.Reading.Records.{records_of}
+use Rattle.cn_texts.specs.declared.reading.batch.BatchEpoch.{BatchEpoch}
+use Rattle.cn_texts.specs.Writing.EpochRecords.{AreRecordsOf}
+use Rattle.cn_texts.specs.Writing.Written.{HasWritten, Written}
+use Rattle.cn_texts.proofs.CallerLemmas.{known-map, written-map}
 use Rattle.cn_nets.specs.Net.{Description, IsNetworkOf}
 use Rattle.cn_cli.specs.declared.options.Form.{Form}
 use Rattle.cn_renamer.specs.Floors.{HaveWalked, IsRunOnFloors, new_runner}
 use Rattle.cn_renamer.specs.Headline.{IsInOrder, ids_of, text_in}
 use Rattle.cn_renamer.specs.Running.{MayRunAll}
 use Rattle.cn_renamer.proofs.Floors.{AreMadeOf, records-made, when-zero}
-use Rattle.cn_renamer.proofs.Headline.{written-as}
 
 -- what may come within any bounds may come within those of a large batch
 one-comes : (large : Bool) (entries : ℕ) (clients : List Client) → MayCome (bounds_of large entries) clients
@@ -123,7 +122,7 @@ run-written contents old new net form carry large network built known epochs bat
     (records-made carry network.table.entries w 0 (zero_words network) epochs floors walked.lists refl (none-came network.table)
     (when-zero carry)
     built.2.counts.formed.width.1 (may-come large network.table.entries epochs fits.come) walked.began walked.walked walked.listed) in
-    written-as contents old new (λ text. text ≡ text_in form network m.records) (λ text. IfSome known (λ bytes. Is bytes text))
+    written-map contents (λ text. text ≡ text_in form network m.records) (λ text. IfSome known (λ bytes. Is bytes text)) written old new
     (λ text same. known-map known (λ bytes. IsBatch (bounds_of large network.table.entries) (records_of bytes) epochs)
     (λ bytes. Is bytes text)
     batch (λ bytes it. is bytes text (record {
@@ -139,4 +138,4 @@ run-written contents old new net form carry large network built known epochs bat
       began = walked.began;
       walked = walked.walked;
       records = m.on;
-    }) (λ worker hand. in-order carry w 0 epochs m.records holders m.are (walked.in_order worker hand)))) written (writes m.records m.are)
+    }) (λ worker hand. in-order carry w 0 epochs m.records holders m.are (walked.in_order worker hand)))) (writes m.records m.are)

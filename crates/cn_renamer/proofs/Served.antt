@@ -17,9 +17,9 @@ use Rattle.cn_floor.specs.Carried.{WordsValue, client_count}
 use Rattle.cn_floor.specs.Ends.{ListsHolders, QuietValue, counts_by_exit}
 use Rattle.cn_walk.specs.Runs.{IsRunAfter}
 use Rattle.cn_walk.specs.Walks.{AreFor, AreInOrder}
-use Rattle.cn_report.specs.Reading.Bounds.{bounds_of}
-use Rattle.cn_report.specs.Reading.Batch.{MayCome}
-use Rattle.cn_report.specs.declared.reading.batch.BatchEpoch.{BatchEpoch}
+use Rattle.cn_texts.specs.Reading.Bounds.{bounds_of}
+use Rattle.cn_texts.specs.Reading.Batch.{MayCome}
+use Rattle.cn_texts.specs.declared.reading.batch.BatchEpoch.{BatchEpoch}
 use Rattle.cn_renamer.specs.Floors.{IsOfFloor}
 use Rattle.cn_renamer.specs.Headline.{IsServed}
 

@@ -1,14 +1,14 @@
 -- The text of a list of grants that is tight, and which fault is given if it is not written.
 use Rattle.std.specs.Prelude.{ℕ, ◌≡◌, ◌≢◌, Bool, IfSome, List, Option, map}
-use Rattle.cn_report.specs.Grants.TightList.{IsFlaw, IsOutside, IsTightList}
-use Rattle.cn_report.specs.Reading.Bounds.{bounds_of}
-use Rattle.cn_report.specs.Reading.Records.{records_of}
-use Rattle.cn_report.specs.Grants.Printed.{printed_epochs, with_shares}
-use Rattle.cn_report.specs.declared.grants.record.Flaw.TheVariants as flaw
-use Rattle.cn_report.specs.declared.grants.record.Flaw.{Flaw}
-use Rattle.cn_report.specs.declared.grants.epochs.NamedEpoch.{NamedEpoch}
-use Rattle.cn_report.specs.Grants.TightText.{tight_text}
-use Rattle.cn_report.specs.Writing.Written.{Written, First, Nothing}
+use Rattle.cn_texts.specs.Grants.TightList.{IsFlaw, IsOutside, IsTightList}
+use Rattle.cn_texts.specs.Reading.Bounds.{bounds_of}
+use Rattle.cn_texts.specs.Reading.Records.{records_of}
+use Rattle.cn_texts.specs.Grants.Printed.{printed_epochs, with_shares}
+use Rattle.cn_texts.specs.declared.grants.record.Flaw.TheVariants as flaw
+use Rattle.cn_texts.specs.declared.grants.record.Flaw.{Flaw}
+use Rattle.cn_texts.specs.declared.grants.epochs.NamedEpoch.{NamedEpoch}
+use Rattle.cn_texts.specs.Grants.TightText.{tight_text}
+use Rattle.cn_texts.specs.Writing.Written.{Written, First, Nothing}
 use Rattle.cn_renamer.specs.declared.checking.CheckFault.{CheckFault}
 use Rattle.cn_renamer.specs.declared.checking.CheckFault.TheVariants as fault
 use Rattle.cn_renamer.specs.declared.output_fault.OutputFault.{OutputFault}

@@ -8,7 +8,7 @@ use Rattle.cn_floor.specs.Ends.{ListsHolders, QuietValue, counts_by_exit}
 use Rattle.cn_walk.specs.Runner.{RunnerValue, next_runner}
 use Rattle.cn_walk.specs.Runs.{IsRunAfter}
 use Rattle.cn_walk.specs.declared.crew.Crew.{Crew}
-use Rattle.cn_report.specs.declared.reading.batch.BatchEpoch.{BatchEpoch}
+use Rattle.cn_texts.specs.declared.reading.batch.BatchEpoch.{BatchEpoch}
 use Rattle.cn_nets.specs.Net.{Description}
 use Rattle.cn_cli.specs.declared.options.Form.{Form}
 use Rattle.cn_renamer.specs.Headline.{IsRunOf, ids_of}

@@ -6,16 +6,16 @@
 use Rattle.std.specs.Prelude.{ℕ, ◌≡◌, ◌+◌, ◌≤◌, [], ◌∷◌, Bool, IfSome, List, Option, length, map, ⊤}
 use Rattle.std.specs.List.{AllZip}
 use Rattle.std.specs.List.Sorted.{IsPermutation}
-use Rattle.cn_spec.specs.Step.{shares, shares_after}
+use Rattle.cn_spec.specs.Step.{shares_after}
 use Rattle.cn_spec.specs.Sums.{times, when}
 use Rattle.cn_tables.specs.Network.{Network}
 use Rattle.cn_ledger.specs.declared.record.EpochRecord.{EpochRecord}
-use Rattle.cn_report.specs.Reading.Batch.{IsBatch}
-use Rattle.cn_report.specs.Reading.Bounds.{bounds_of}
-use Rattle.cn_report.specs.Reading.Records.{records_of}
-use Rattle.cn_report.specs.declared.reading.batch.BatchEpoch.{BatchEpoch}
-use Rattle.cn_report.specs.Grants.ListText.{grants_text}
-use Rattle.cn_report.specs.Writing.Report.{report_text}
+use Rattle.cn_texts.specs.Reading.Batch.{IsBatch}
+use Rattle.cn_texts.specs.Reading.Bounds.{bounds_of}
+use Rattle.cn_texts.specs.Reading.Records.{records_of}
+use Rattle.cn_texts.specs.declared.reading.batch.BatchEpoch.{BatchEpoch}
+use Rattle.cn_texts.specs.Grants.ListText.{grants_text}
+use Rattle.cn_texts.specs.Writing.Report.{report_text}
 use Rattle.cn_nets.specs.Net.{Description, IsNetworkOf, entries_of}
 use Rattle.cn_cli.specs.declared.options.Form.{Form}
 use Rattle.cn_cli.specs.declared.options.Form.TheVariants.{Report, Grants}
@@ -79,8 +79,3 @@ pub record IsRunInOrder (net : Description) (form : Form) (carry large : Bool) (
 abbrev pub IsRunInOrderOfKnown : Description → Form → Bool → Bool → Option (List ℕ) → List ℕ → Type 0
 IsRunInOrderOfKnown net form carry large known text =
     IfSome known (λ bytes. IsRunInOrder net form carry large bytes text)
-
--- what a check of the grant list says of an epoch of a run: its number, its k clients, and for each exit how many of
--- its names n have `n % w` equal to the exit, which is the exit's share, with carry too
-abbrev pub served_epoch : ℕ → BatchEpoch → ℕ × ℕ × List ℕ
-served_epoch w epoch = (epoch.number, length epoch.clients.items, shares (length epoch.clients.items) w)

@@ -1,8 +1,8 @@
 -- The lines that the program prints of flaws.
 use Rattle.std.specs.Prelude.{ℕ, ◌++◌, List, codes, decimal}
-use Rattle.cn_report.specs.Grants.TightList.{flaw_name}
-use Rattle.cn_report.specs.declared.grants.record.Flaw.{Flaw}
-use Rattle.cn_report.specs.declared.grants.record.Flaw.TheVariants.{Read, Form, DuplicateClient, DuplicateName, Gap, Memory}
+use Rattle.cn_texts.specs.Grants.TightList.{flaw_name}
+use Rattle.cn_texts.specs.declared.grants.record.Flaw.{Flaw}
+use Rattle.cn_texts.specs.declared.grants.record.Flaw.TheVariants.{Read, Form, DuplicateClient, DuplicateName, Gap, Memory}
 
 -- what is wrong, and which record or name has it
 abbrev pub flaw_line : Flaw → List ℕ

@@ -1,5 +1,5 @@
 -- How much of its text a job has written that met a fault.
-use Rattle.cn_report.specs.Writing.Written.{Written, First, Nothing}
+use Rattle.cn_texts.specs.Writing.Written.{Written, First, Nothing}
 use Rattle.cn_renamer.specs.declared.output_fault.OutputFault.{OutputFault}
 use Rattle.cn_renamer.specs.declared.output_fault.OutputFault.TheVariants.{Memory, Write}
 

@@ -2,7 +2,7 @@
 use Rattle.std.specs.Prelude.{ℕ, ◌≡◌, List, MatchResult, IfErr, Option, Result, Ok, Err, string_bytes, true, false}
 use Rattle.clap.specs.Words.{Text}
 use Rattle.cn_tables.specs.Widths.{IsWidth}
-use Rattle.cn_report.specs.Writing.Written.{HasWritten, Written, Nothing, written_by}
+use Rattle.cn_texts.specs.Writing.Written.{HasWritten, Written, Nothing, written_by}
 use Rattle.cn_cli.specs.Words.{IsFaultOf, IsJobOf}
 use Rattle.cn_cli.specs.declared.words.Job.{Job}
 use Rattle.cn_cli.specs.declared.words.Job.TheVariants as job

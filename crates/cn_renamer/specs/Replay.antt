@@ -9,13 +9,13 @@ use Rattle.cn_ledger.specs.declared.command.Command.{Command}
 use Rattle.cn_epoch.specs.Calls.{AnswersCommandByHistory, RunsCommandsByHistory}
 use Rattle.cn_epoch.specs.History.{Epochs, MayAnswerCommands, history_by_commands, turns_by}
 use Rattle.cn_ledger.specs.Answers.{HadMemory}
-use Rattle.cn_report.specs.Reading.Records.{records_of}
-use Rattle.cn_report.specs.Writing.Replay.{Fits, IsShowable, answer_line, replay_text}
-use Rattle.cn_report.specs.Reading.Schedule.{IsSchedule, IsScheduleFault}
-use Rattle.cn_report.specs.declared.reading.schedule_fault.ScheduleCause.{ScheduleCause}
-use Rattle.cn_report.specs.declared.reading.schedule_fault.ScheduleCause.TheVariants as cause
-use Rattle.cn_report.specs.declared.reading.schedule_fault.ScheduleFault.{ScheduleFault}
-use Rattle.cn_report.specs.Writing.Written.{Written, First, Nothing}
+use Rattle.cn_texts.specs.Reading.Records.{records_of}
+use Rattle.cn_texts.specs.Writing.Replay.{Fits, IsShowable, answer_line, replay_text}
+use Rattle.cn_texts.specs.Reading.Schedule.{IsSchedule, IsScheduleFault}
+use Rattle.cn_texts.specs.declared.reading.schedule_fault.ScheduleCause.{ScheduleCause}
+use Rattle.cn_texts.specs.declared.reading.schedule_fault.ScheduleCause.TheVariants as cause
+use Rattle.cn_texts.specs.declared.reading.schedule_fault.ScheduleFault.{ScheduleFault}
+use Rattle.cn_texts.specs.Writing.Written.{Written, First, Nothing}
 use Rattle.cn_nets.specs.Net.{Description, IsNetworkOf}
 use Rattle.cn_renamer.specs.declared.output_fault.OutputFault.{OutputFault}
 use Rattle.cn_renamer.specs.declared.output_fault.OutputFault.TheVariants as output

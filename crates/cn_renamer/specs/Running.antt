@@ -1,9 +1,9 @@
 -- Which epochs may be run, and by whom.
 use Rattle.std.specs.Prelude.{◌≡◌, ℕ, ◌<◌, ◌≤◌, ◌*◌, ◌/◌, All, Bool, List, Option, Some, None, length, max, min, true, false}
 use Rattle.cn_spec.specs.declared.limits.TheConstants.{MOST_NAMED}
-use Rattle.cn_report.specs.Reading.Batch.{MayCome, clients_of_epochs}
-use Rattle.cn_report.specs.Reading.Bounds.{bounds_of}
-use Rattle.cn_report.specs.declared.reading.batch.BatchEpoch.{BatchEpoch}
+use Rattle.cn_texts.specs.Reading.Batch.{MayCome, clients_of_epochs}
+use Rattle.cn_texts.specs.Reading.Bounds.{bounds_of}
+use Rattle.cn_texts.specs.declared.reading.batch.BatchEpoch.{BatchEpoch}
 use Rattle.cn_cli.specs.Options.{Settings}
 use Rattle.cn_renamer.specs.declared.epochs.TheConstants.{CLIENTS_FOR_A_THREAD}
 use Rattle.cn_walk.specs.declared.crew.Crew.{Crew}

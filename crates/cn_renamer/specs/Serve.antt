@@ -1,12 +1,12 @@
 -- The faults of a run that does not write its text whole.
 use Rattle.std.specs.Prelude.{ℕ, ◌≢◌, Bool, IfSome, List, Option}
-use Rattle.cn_report.specs.Reading.Batch.{IsBatchFault}
-use Rattle.cn_report.specs.Reading.Bounds.{bounds_of}
-use Rattle.cn_report.specs.Reading.Records.{records_of}
-use Rattle.cn_report.specs.declared.reading.batch_fault.BatchCause.{BatchCause}
-use Rattle.cn_report.specs.declared.reading.batch_fault.BatchCause.TheVariants as cause
-use Rattle.cn_report.specs.declared.reading.batch_fault.BatchFault.{BatchFault}
-use Rattle.cn_report.specs.Writing.Written.{Written, First, Nothing}
+use Rattle.cn_texts.specs.Reading.Batch.{IsBatchFault}
+use Rattle.cn_texts.specs.Reading.Bounds.{bounds_of}
+use Rattle.cn_texts.specs.Reading.Records.{records_of}
+use Rattle.cn_texts.specs.declared.reading.batch_fault.BatchCause.{BatchCause}
+use Rattle.cn_texts.specs.declared.reading.batch_fault.BatchCause.TheVariants as cause
+use Rattle.cn_texts.specs.declared.reading.batch_fault.BatchFault.{BatchFault}
+use Rattle.cn_texts.specs.Writing.Written.{Written, First, Nothing}
 use Rattle.cn_nets.specs.Net.{Description, entries_of}
 use Rattle.cn_renamer.specs.declared.serve_fault.ServeFault.{ServeFault}
 use Rattle.cn_renamer.specs.declared.serve_fault.ServeFault.TheVariants.{Batch, Memory, Write}

@@ -1,7 +1,7 @@
 -- The text that shows a wiring.
 use Rattle.std.specs.Prelude.{ℕ, ◌≡◌, List}
 use Rattle.cn_tables.specs.Network.{Network}
-use Rattle.cn_report.specs.Writing.Wiring.{wiring_text}
+use Rattle.cn_texts.specs.Writing.Wiring.{wiring_text}
 use Rattle.cn_nets.specs.Net.{Description, IsNetworkOf}
 
 -- this is the text of the wiring of a network of this kind and width

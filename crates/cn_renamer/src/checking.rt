@@ -2,13 +2,13 @@
 
 ghost use Rattle.std.specs.Prelude.{◌≡◌, IfErr, Some, false};
 ghost use Rattle.cn_tables.specs.Widths.{IsWidth};
-ghost use Rattle.cn_report.specs.Writing.Written.{HasWritten, written_by};
+ghost use Rattle.cn_texts.specs.Writing.Written.{HasWritten, written_by};
 ghost use Rattle.cn_renamer.specs.Check.{IsCheckFault, IsCheckOfKnown, IsTightTextOf, fault_of_flaw, fault_of_output, status_of_check, until_check};
 ghost use Rattle.cn_renamer.specs.Lines.{flaw_line};
 ghost use Rattle.cn_renamer.specs.Outputs.{until_output};
 
 use crate::output_fault::OutputFault;
-use cn_report::{Flaw, NamedEpoch, Pieces, named_grants_within, write_tight};
+use cn_texts::{Flaw, NamedEpoch, Pieces, named_grants_within, write_tight};
 use std::alloc::Global;
 use std::fmt;
 use std::io::{Read, Write};

@@ -3,8 +3,8 @@
 ghost use Rattle.std.specs.Prelude.{◌≡◌, ◌+◌, ◌<◌, ◌≤◌, [], ◌∷◌, ℕ, IfOk, IfSome, false, length, take, true};
 ghost use Rattle.cn_spec.specs.declared.limits.TheConstants.{MOST_CARRIED, MOST_NAMED};
 ghost use Rattle.cn_floor.specs.Carried.{client_count};
-ghost use Rattle.cn_report.specs.Reading.Batch.{MayCome, clients_of_epochs};
-ghost use Rattle.cn_report.specs.Reading.Bounds.{bounds_of};
+ghost use Rattle.cn_texts.specs.Reading.Batch.{MayCome, clients_of_epochs};
+ghost use Rattle.cn_texts.specs.Reading.Bounds.{bounds_of};
 ghost use Rattle.cn_renamer.specs.Floors.{HaveWalked, new_runner, runner_after};
 ghost use Rattle.cn_renamer.specs.Running.{MayRunAll, clients_of_half, crew_of, of_one_worker, workers_that_pay};
 ghost use Rattle.cn_walk.specs.Crew.{IsCrew};
@@ -12,8 +12,8 @@ ghost use denote.Param.Send.{IsSync};
 
 use cn_cli::Options;
 use cn_floor::{Gate, OpenGate, Receipts};
-use cn_report::BatchEpoch;
 use cn_tables::Counting;
+use cn_texts::BatchEpoch;
 use cn_walk::{Crew, RunFault, Runner, join_mut};
 use std::alloc::{AllocError, Global};
 use std::sync::Wait;

@@ -4,7 +4,6 @@
 mod checking;
 mod epochs;
 mod fault;
-pub mod laws;
 mod output_fault;
 mod performing;
 mod replaying;

@@ -3,7 +3,7 @@
 ghost use Rattle.std.specs.Prelude.{◌≡◌};
 ghost use Rattle.cn_renamer.specs.declared.output_fault.OutputFault.TheVariants.{Memory, Write};
 
-use cn_report::EmitFault;
+use cn_texts::EmitFault;
 use cn_wiring::BuildFault;
 use std::alloc::AllocError;
 use thiserror::Error;

@@ -1,7 +1,7 @@
 //! The job that the words ask for, done.
 
 ghost use Rattle.std.specs.Prelude.{◌≡◌, Err, IfErr, List, Option, is_some, map, string_bytes, ℕ};
-ghost use Rattle.cn_report.specs.Writing.Written.{HasWritten, written_by};
+ghost use Rattle.cn_texts.specs.Writing.Written.{HasWritten, written_by};
 ghost use Rattle.cn_renamer.specs.Outputs.{until_output};
 ghost use Rattle.cn_renamer.specs.Performing.{HasRun, IsBuiltFor, IsTextAsked, IsTextOf, MayEnd, MayEndAsked, until_fault};
 
@@ -13,7 +13,7 @@ use crate::serving::serve_with_receipts;
 use crate::showing::show;
 use cn_cli::{Job, Options, WordsFault, parse_words};
 use cn_floor::OpenGate;
-use cn_report::emit;
+use cn_texts::emit;
 use std::alloc::Global;
 use std::hash::RandomState;
 use std::io::{Read, Write};

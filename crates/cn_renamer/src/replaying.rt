@@ -5,7 +5,7 @@ ghost use Rattle.cn_core.specs.State.{start};
 ghost use Rattle.cn_epoch.specs.History.{EpochsAgree};
 ghost use Rattle.cn_ledger.specs.Answers.{HadMemory};
 ghost use Rattle.cn_ledger.specs.declared.answer.Answer.{Answer};
-ghost use Rattle.cn_report.specs.Writing.Written.{HasWritten, written_by};
+ghost use Rattle.cn_texts.specs.Writing.Written.{HasWritten, written_by};
 ghost use Rattle.cn_renamer.specs.Outputs.{until_output};
 ghost use Rattle.cn_renamer.specs.Replay.{AreAnsweredAs, IsAnsweredAs, IsReplayFault, IsReplayOfCommands, IsReplayOfKnown, IsReplayText, IsWithoutCounts, fault_of_output, fault_of_schedule, status_of_replay, until_replay};
 
@@ -13,8 +13,8 @@ use crate::output_fault::OutputFault;
 use cn_epoch::Epochs;
 use cn_ledger::{Answer, Command, EnterFault, Reply, TurnFault};
 use cn_nets::Net;
-use cn_report::{OpenEpoch, Pieces, ScheduleCause, ScheduleFault, read_schedule, write_replay};
 use cn_tables::Counting;
+use cn_texts::{OpenEpoch, Pieces, ScheduleCause, ScheduleFault, read_schedule, write_replay};
 use std::alloc::Global;
 use std::hash::RandomState;
 use std::io::{Read, Write};

@@ -4,7 +4,7 @@ ghost use Rattle.std.specs.Prelude.{◌≡◌};
 ghost use Rattle.cn_renamer.specs.declared.serve_fault.ServeFault.TheVariants.{Memory, Write};
 ghost use Rattle.cn_renamer.specs.Serve.{fault_of_batch, status_of_serve};
 
-use cn_report::{BatchCause, BatchFault, EmitFault};
+use cn_texts::{BatchCause, BatchFault, EmitFault};
 use cn_wiring::BuildFault;
 use std::alloc::AllocError;
 use thiserror::Error;

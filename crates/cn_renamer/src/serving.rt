@@ -3,12 +3,12 @@
 ghost use Rattle.std.specs.Prelude.{◌≡◌, ◌≤◌, IfErr, IfOk, IfSome, List, length};
 ghost use Rattle.cn_spec.specs.declared.limits.TheConstants.{MOST_NAMED};
 ghost use Rattle.cn_ledger.specs.declared.record.EpochRecord.{EpochRecord};
-ghost use Rattle.cn_report.specs.Reading.Batch.{AnswersBatch, AreServable, clients_of_epochs};
-ghost use Rattle.cn_report.specs.Reading.Bounds.{bounds_of};
-ghost use Rattle.cn_report.specs.Reading.Records.{records_of};
-ghost use Rattle.cn_report.specs.Writing.Pieces.{nothing_put};
-ghost use Rattle.cn_report.specs.Writing.EpochRecords.{AreRecordsOf};
-ghost use Rattle.cn_report.specs.Writing.Written.{First, HasWritten, Whole, written_by};
+ghost use Rattle.cn_texts.specs.Reading.Batch.{AnswersBatch, AreServable, clients_of_epochs};
+ghost use Rattle.cn_texts.specs.Reading.Bounds.{bounds_of};
+ghost use Rattle.cn_texts.specs.Reading.Records.{records_of};
+ghost use Rattle.cn_texts.specs.Writing.Pieces.{nothing_put};
+ghost use Rattle.cn_texts.specs.Writing.EpochRecords.{AreRecordsOf};
+ghost use Rattle.cn_texts.specs.Writing.Written.{First, HasWritten, Whole, written_by};
 ghost use Rattle.cn_renamer.specs.Floors.{IsRunOnFloorsOfKnown};
 ghost use Rattle.cn_renamer.specs.Headline.{IsRunInOrderOfKnown, IsRunOfKnown, text_in};
 ghost use Rattle.cn_renamer.specs.Running.{walkers};
@@ -18,11 +18,11 @@ use crate::epochs::run_epochs;
 use crate::serve_fault::ServeFault;
 use cn_cli::{Form, Options};
 use cn_floor::{Gate, Receipts};
-use cn_report::{
+use cn_tables::Counting;
+use cn_texts::{
     Batch, BatchEpoch, BatchFault, Bounds, EmitFault, Pieces, read_batch_within, write_grants,
     write_report,
 };
-use cn_tables::Counting;
 use std::alloc::Global;
 use std::hash::RandomState;
 use std::io::{Read, Write};
@@ -80,7 +80,7 @@ fn write_epochs<W: Write>(
 /// Reads a batch, runs its epochs, and writes what came of them in the options' form: the report, which has the
 /// network, each epoch's number and its number of clients, how many left by each exit, who holds which name, and how
 /// many epochs and grants there are; or the grant list, which `check` takes
-/// ([`crate::laws::written_grants_are_accepted`]).
+/// (`written_grants_are_accepted` of `cn_report`).
 ///
 /// The epochs run one after another, each as [`cn_walk::Runner::run`] does, by as many workers as the options have,
 /// each with so many clients in hand.
@@ -92,7 +92,7 @@ fn write_epochs<W: Write>(
 ///
 /// **In order.** By one worker with one client in hand the n-th client of each epoch, counted from 0, gets the name n:
 /// names follow the order of the batch, and what is written is a function of what is read
-/// ([`crate::laws::a_run_in_order_has_one_text`]).
+/// (`a_run_in_order_has_one_text` of `cn_report`).
 ///
 /// If the options carry counters, no word is cleared between epochs. Then in each epoch of k clients after m the count
 /// of exit i is its share of m + k clients minus its share of m. The names are still 0 to k-1, each below the number of

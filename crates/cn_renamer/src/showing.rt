@@ -1,12 +1,12 @@
 //! The wiring of a network, shown.
 
-ghost use Rattle.cn_report.specs.Writing.Written.{HasWritten, written_by};
+ghost use Rattle.cn_texts.specs.Writing.Written.{HasWritten, written_by};
 ghost use Rattle.cn_renamer.specs.Outputs.{until_output};
 ghost use Rattle.cn_renamer.specs.Show.{IsWiringOf};
 
 use crate::output_fault::OutputFault;
 use cn_nets::Net;
-use cn_report::{Pieces, write_wiring};
+use cn_texts::{Pieces, write_wiring};
 use std::alloc::Global;
 use std::io::Write;
 

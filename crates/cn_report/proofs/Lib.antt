@@ -1,6 +1,7 @@
-pub mod CallerLemmas
+pub mod Accepted
 pub mod Common
-pub mod GrantLemmas
+pub mod InOrder
+pub mod OneText
 pub mod ReadBack
-pub mod ReadingLemmas
-pub mod WritingLemmas
+pub mod SameLines
+pub mod UniqueBatch

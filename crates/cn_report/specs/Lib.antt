@@ -1,4 +1,3 @@
+-- For callers in Rattle: what a check with counts answers, and the epochs that can be written as a tight list.
 pub mod Callers
-pub mod Grants
-pub mod Reading
-pub mod Writing
+pub mod TightRecords

@@ -1,20 +1,18 @@
-//! What the service reads and writes: schedules, batches and lists of grants, the texts of its jobs, and the loop that
-//! writes a text.
+//! For callers in Rattle: each text in a vector, of records that have their counts; what is read that is not large;
+//! what a check finds with the shares of each epoch; and the laws of what jobs read and write. It passes on what
+//! [`cn_texts`] has.
 #![tactic(auto)]
 
-mod callers;
-mod grants;
+mod checking;
 pub mod laws;
 mod reading;
-mod writing;
+mod rendering;
 
-pub use callers::{
-    Tight, TightEpoch, check_grants, render_grants, render_replay, render_report, render_tight,
-    render_wiring,
+pub use checking::{Tight, TightEpoch, check_grants, render_tight};
+pub use cn_texts::{
+    Batch, BatchCause, BatchEpoch, BatchFault, Bounds, EmitFault, Flaw, NamedEpoch, OpenEpoch,
+    Pieces, ScheduleCause, ScheduleFault, emit, named_grants_within, read_batch_within,
+    read_schedule, write_grants, write_replay, write_report, write_tight, write_wiring,
 };
-pub use grants::{Flaw, NamedEpoch, named_grants, named_grants_within, write_grants, write_tight};
-pub use reading::{
-    Batch, BatchCause, BatchEpoch, BatchFault, Bounds, ScheduleCause, ScheduleFault, read_batch,
-    read_batch_within, read_schedule,
-};
-pub use writing::{EmitFault, OpenEpoch, Pieces, emit, write_replay, write_report, write_wiring};
+pub use reading::{named_grants, read_batch};
+pub use rendering::{render_grants, render_replay, render_report, render_wiring};

@@ -1,6 +1,6 @@
 //! Replays and wirings that are at hand, rendered.
 
-ghost use Rattle.cn_report.specs.Writing.Outcome.{IsWholeRecord};
+ghost use Rattle.cn_report.specs.Callers.{IsWholeRecord};
 
 use crate::replaying::{ROWS, joined};
 use crate::reports::record;

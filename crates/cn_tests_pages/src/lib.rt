@@ -18,6 +18,7 @@ pub mod of_renamer;
 pub mod of_replies;
 pub mod of_report;
 pub mod of_spec;
+pub mod of_texts;
 pub mod of_tree;
 pub mod of_wiring;
 pub mod of_yard;

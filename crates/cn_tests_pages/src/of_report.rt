@@ -1,18 +1,17 @@
 //! The caller of the page of cn_report.
 
-ghost use Rattle.std.specs.Prelude.{◌≡◌, IfOk, List, length};
-ghost use Rattle.cn_ledger.specs.declared.command.Command.{Command};
-ghost use Rattle.cn_report.specs.Reading.Records.{records_of};
-ghost use Rattle.cn_report.specs.Reading.Schedule.{IsSchedule};
+ghost use Rattle.std.specs.Prelude.{IfOk};
+ghost use Rattle.cn_spec.specs.declared.limits.TheConstants.{MOST_RECORDS};
+ghost use Rattle.cn_texts.specs.Grants.TightList.{IsTightList};
+ghost use Rattle.cn_texts.specs.Reading.Records.{records_of};
 
-use cn_report::{ScheduleFault, read_schedule};
+use cn_report::{Flaw, named_grants};
 use std::alloc::Global;
 
-/// How many commands a schedule has.
-pub fn commands_in(alloc: Global, text: &[u8]) -> Result<usize, ScheduleFault>
-    ensures { IfOk result (λ count. (commands : List Command)
-        × IsSchedule (records_of text.now) commands × (length commands ≡ count)) }
+/// How many epochs a list of grants has, if it is tight.
+pub fn epochs_in(alloc: Global, list: &[u8]) -> Result<usize, Flaw>
+    ensures { IfOk result (λ _. IsTightList MOST_RECORDS (records_of list.now)) }
 {
-    let commands = read_schedule(alloc, text)?;
-    Ok(commands.len())
+    let epochs = named_grants(alloc, list)?;
+    Ok(epochs.len())
 }

@@ -3,18 +3,18 @@ use Rattle.cn_report.proofs.Common.{◌≡◌, ◌<◌, ◌≤◌, ◌+◌, ◌^
 use Rattle.std.specs.Result.{result_ok}
 use Rattle.std.proofs.lemmas.Option.{none-some}
 use Rattle.cn_ledger.specs.declared.client.Client.{Client}
-use Rattle.cn_report.specs.Reading.Arrival.{arrival_cause, arrival_in, arrival_with_entry, arrivals_in, arriving, entry_by_rule, ruled_arrival, spelled_cause}
-use Rattle.cn_report.specs.Reading.Batch.{IsBatch, arrivals_of, batch_cause, header_cause, record_cause}
-use Rattle.cn_report.specs.declared.reading.bounds.Bounds.{Bounds}
-use Rattle.cn_report.specs.Reading.Heading.{heading_in}
-use Rattle.cn_report.specs.declared.reading.batch.arrival.Heading.{Heading}
-use Rattle.cn_report.specs.declared.reading.batch.arrival.Heading.TheVariants.{WithEntry, ByRule}
-use Rattle.cn_report.specs.Reading.Faults.{IsClean}
-use Rattle.cn_report.specs.Reading.Number.{number_in}
-use Rattle.cn_report.specs.declared.reading.batch.arrival.Arrival.{Arrival}
-use Rattle.cn_report.specs.declared.reading.batch_fault.BatchCause.{BatchCause}
-use Rattle.cn_report.specs.declared.reading.batch.BatchEpoch.{BatchEpoch}
-use Rattle.cn_report.proofs.ReadingLemmas.FirstFaults.{cause_later}
+use Rattle.cn_texts.specs.Reading.Arrival.{arrival_cause, arrival_in, arrival_with_entry, arrivals_in, arriving, entry_by_rule, ruled_arrival, spelled_cause}
+use Rattle.cn_texts.specs.Reading.Batch.{IsBatch, arrivals_of, batch_cause, header_cause, record_cause}
+use Rattle.cn_texts.specs.declared.reading.bounds.Bounds.{Bounds}
+use Rattle.cn_texts.specs.Reading.Heading.{heading_in}
+use Rattle.cn_texts.specs.declared.reading.batch.arrival.Heading.{Heading}
+use Rattle.cn_texts.specs.declared.reading.batch.arrival.Heading.TheVariants.{WithEntry, ByRule}
+use Rattle.cn_texts.specs.Reading.Faults.{IsClean}
+use Rattle.cn_texts.specs.Reading.Number.{number_in}
+use Rattle.cn_texts.specs.declared.reading.batch.arrival.Arrival.{Arrival}
+use Rattle.cn_texts.specs.declared.reading.batch_fault.BatchCause.{BatchCause}
+use Rattle.cn_texts.specs.declared.reading.batch.BatchEpoch.{BatchEpoch}
+use Rattle.cn_texts.proofs.CallerLemmas.{cause_later}
 
 -- ---- numbers
 

@@ -4,10 +4,10 @@ use Rattle.std.proofs.lemmas.List.Folds.{flat_map-map}
 use Rattle.std.proofs.lemmas.List.FromFn.{fill_by_all, length-map-range_with_len}
 use Rattle.std.proofs.lemmas.Grind.{flat_map-append}
 use Rattle.cn_ledger.specs.declared.record.EpochRecord.{EpochRecord}
-use Rattle.cn_report.specs.Grants.Granted.{of_epoch}
-use Rattle.cn_report.specs.declared.grants.record.Granted.{Granted}
-use Rattle.cn_report.specs.Grants.ListText.{grant_lines}
-use Rattle.cn_report.specs.Writing.Report.{clients_of_records}
+use Rattle.cn_texts.specs.Grants.Granted.{of_epoch}
+use Rattle.cn_texts.specs.declared.grants.record.Granted.{Granted}
+use Rattle.cn_texts.specs.Grants.ListText.{grant_lines}
+use Rattle.cn_texts.specs.Writing.Report.{clients_of_records}
 use Rattle.cn_report.proofs.ReadBack.Records.{line_of}
 
 -- who holds a name of an epoch

@@ -4,7 +4,7 @@ use Rattle.std.specs.Char.{is_ascii_digit}
 use Rattle.std.proofs.lemmas.Fmt.{decimal_nonempty, digits_decimal, digits_value-decimal, length-decimal-le}
 use Rattle.std.proofs.lemmas.Str.Parse.{IsDigitsTest, numerals_by_value}
 use Rattle.csv.specs.Writing.{default_writer, field_text, needs_byte}
-use Rattle.cn_report.specs.Reading.Number.{number_in}
+use Rattle.cn_texts.specs.Reading.Number.{number_in}
 
 -- the tests of the first digit and of the rest
 tells : IsDigitsTest (λ ds. list_all is_ascii_digit ds ≡ true)

@@ -5,14 +5,15 @@ use Rattle.std.proofs.lemmas.List.Sorted.{IsPermutation-refl}
 use Rattle.cn_spec.proofs.CallerLemmas.{counts-shares, counts-shares-after}
 use Rattle.cn_spec.specs.declared.limits.TheConstants.{MOST_NAMED}
 use Rattle.cn_ledger.specs.declared.record.EpochRecord.{EpochRecord}
-use Rattle.cn_report.specs.Grants.Granted.{grants_spelled, of_epoch}
-use Rattle.cn_report.specs.Grants.TightList.{IsTightList}
-use Rattle.cn_report.specs.Grants.Printed.{epoch_numbers, names_in, printed_epoch, printed_epochs, with_number}
-use Rattle.cn_report.specs.declared.grants.record.Granted.{Granted}
-use Rattle.cn_report.specs.Grants.ListText.{AreRisingRecords, AreTightRecords, checked_epoch, grants_text}
+use Rattle.cn_texts.specs.Grants.Granted.{grants_spelled, of_epoch}
+use Rattle.cn_texts.specs.Grants.TightList.{IsTightList}
+use Rattle.cn_texts.specs.Grants.Printed.{epoch_numbers, printed_epoch, printed_epochs, with_number}
+use Rattle.cn_texts.specs.declared.grants.record.Granted.{Granted}
+use Rattle.cn_texts.specs.Grants.ListText.{grants_text}
 use Rattle.cn_report.proofs.ReadBack.Epochs.{all_grants, first-epoch, grant_at, grants_of, later-epoch, names-given}
 use Rattle.cn_report.proofs.ReadBack.Form.{grants-read}
 use Rattle.cn_report.proofs.ReadBack.TightAgain.{records-back, small-grants}
+use Rattle.cn_report.specs.TightRecords.{AreRisingRecords, AreTightRecords, checked_epoch, names_in}
 
 -- ---- the epochs' numbers
 

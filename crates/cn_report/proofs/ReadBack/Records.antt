@@ -5,8 +5,8 @@ use Rattle.csv.specs.Reading.{default_config, records_from, strip_bom}
 use Rattle.csv.specs.Writing.{default_writer, escaped, fields_text, is_blank, quote_mark, read_back, row_body, row_text}
 use Rattle.csv.proofs.RoundTrip.{read-write, rows_text}
 use Rattle.csv.specs.declared.parser.State.TheVariants as st
-use Rattle.cn_report.specs.Grants.ListText.{grant_line, grants_header}
-use Rattle.cn_report.specs.declared.grants.record.Granted.{Granted}
+use Rattle.cn_texts.specs.Grants.ListText.{grant_line, grants_header}
+use Rattle.cn_texts.specs.declared.grants.record.Granted.{Granted}
 use Rattle.cn_report.proofs.ReadBack.Fields.{decimal_text}
 
 -- the fields of the header, and of a grant

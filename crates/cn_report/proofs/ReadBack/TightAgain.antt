@@ -6,13 +6,14 @@ use Rattle.std.proofs.Math.Dec.{eqb}
 use Rattle.cn_spec.proofs.CallerLemmas.{times-nil}
 use Rattle.cn_spec.specs.declared.limits.TheConstants.{MOST_NAMED}
 use Rattle.cn_ledger.specs.declared.record.EpochRecord.{EpochRecord}
-use Rattle.cn_report.specs.Grants.Granted.{of_epoch}
-use Rattle.cn_report.specs.Grants.TightList.{AreTightGrants, IsTightList}
-use Rattle.cn_report.specs.declared.grants.record.Granted.{Granted}
-use Rattle.cn_report.specs.Grants.ListText.{AreRisingRecords, AreTightRecords, HasOwnNames, grants_header, grants_text}
+use Rattle.cn_texts.specs.Grants.Granted.{of_epoch}
+use Rattle.cn_texts.specs.Grants.TightList.{AreTightGrants, IsTightList}
+use Rattle.cn_texts.specs.declared.grants.record.Granted.{Granted}
+use Rattle.cn_texts.specs.Grants.ListText.{grants_header, grants_text}
 use Rattle.cn_report.proofs.ReadBack.Epochs.{all_grants, clients-held, first-epoch, grant_at, grants-many, grants_of, later-epoch, lines-of-all, names-given}
 use Rattle.cn_report.proofs.ReadBack.Form.{NeverFall, form-clean, grants-read}
 use Rattle.cn_report.proofs.ReadBack.Records.{AllSmall, grants-back, header_record, record_of}
+use Rattle.cn_report.specs.TightRecords.{AreRisingRecords, AreTightRecords, HasOwnNames}
 
 -- an epoch with no grants has no record
 none-tight : AreTightGrants []
@@ -31,14 +32,12 @@ pub each-tight : (records : List EpochRecord) → AreRisingRecords records → A
     → AreTightGrants (of_epoch e (all_grants records))
 unfolding AreRisingRecords
 each-tight [] rising own e = none-tight
-each-tight (r ∷ records) rising own e = by (eqb_tells r.number e) (each-tight records rising.1 own.1 e)
-  where
-    by : ((eqb r.number e ≡ true) × (r.number ≡ e)) ⊎ ((eqb r.number e ≡ false) × (r.number ≢ e))
-        → AreTightGrants (of_epoch e (all_grants records)) → AreTightGrants (of_epoch e (all_grants (r ∷ records)))
-    by (inl w) later =
-        subst (λ (n : ℕ). AreTightGrants (of_epoch n (all_grants (r ∷ records)))) w.1
-        (rw (first-epoch r records rising.0) (own-tight r own.0))
-    by (inr w) later = rw (later-epoch e r records w.1) later
+each-tight (r ∷ records) rising own e = elim (eqb_tells r.number e) [
+  | inl w ↦
+      subst (λ (n : ℕ). AreTightGrants (of_epoch n (all_grants (r ∷ records)))) w.1
+      (rw (first-epoch r records rising.0) (own-tight r own.0))
+  | inr w ↦ rw (later-epoch e r records w.1) (each-tight records rising.1 own.1 e)
+]
 
 -- all numbers are of 64 bits
 small_at : (holders : List ℕ) (n : ℕ) → AllByRecursion (λ client. client < 2 ^ 64) holders → get_or holders n 0 < 2 ^ 64

@@ -1,12 +1,12 @@
 use Rattle.std.specs.Prelude.{Bool, List, Option, IfSome, ℕ}
 use Rattle.std.proofs.Common.{◌≡◌, ◌∙◌, ap, refl}
 use Rattle.std.proofs.lemmas.Result.{err_from_is_err_and}
-use Rattle.cn_report.proofs.CallerLemmas.{known-map, written-map}
-use Rattle.cn_report.specs.Reading.Bounds.{bounds_of}
-use Rattle.cn_report.specs.Reading.Records.{records_of}
-use Rattle.cn_report.specs.Grants.Printed.{IsNamedList}
-use Rattle.cn_report.specs.Grants.TightText.{tight_text}
-use Rattle.cn_report.specs.declared.grants.epochs.NamedEpoch.{NamedEpoch}
+use Rattle.cn_texts.proofs.CallerLemmas.{known-map, written-map}
+use Rattle.cn_texts.specs.Reading.Bounds.{bounds_of}
+use Rattle.cn_texts.specs.Reading.Records.{records_of}
+use Rattle.cn_texts.specs.Grants.Printed.{IsNamedList}
+use Rattle.cn_texts.specs.Grants.TightText.{tight_text}
+use Rattle.cn_texts.specs.declared.grants.epochs.NamedEpoch.{NamedEpoch}
 use Rattle.cn_renamer.specs.Check.{IsCheckOfKnown, IsTightTextOf, fault_of_output, until_check}
 use Rattle.cn_renamer.specs.Outputs.{until_output}
 use Rattle.cn_renamer.specs.declared.output_fault.OutputFault.{OutputFault}

@@ -1,6 +1,6 @@
 use Rattle.std.proofs.Common.{rules, ◌≡◌, ◌+◌, List, ℕ, arith, drop, length, subst, sym, take}
 use Rattle.std.proofs.lemmas.List.Sums.{sum_by-take-le}
-use Rattle.cn_report.specs.declared.reading.batch.BatchEpoch.{BatchEpoch}
+use Rattle.cn_texts.specs.declared.reading.batch.BatchEpoch.{BatchEpoch}
 use Rattle.cn_renamer.specs.Running.{MayRunAll}
 use Rattle.cn_renamer.proofs.Floors.{beside}
 use Rattle.cn_renamer.proofs.Running.{may-back, may-front, some-client}

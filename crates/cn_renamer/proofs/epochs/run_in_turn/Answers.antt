@@ -8,9 +8,9 @@ use Rattle.cn_tables.specs.Network.{Network}
 use Rattle.cn_floor.specs.Carried.{client_count}
 use Rattle.cn_floor.specs.Ends.{QuietValue}
 use Rattle.cn_walk.specs.Runner.{RunnerValue}
-use Rattle.cn_report.specs.Reading.Bounds.{bounds_of}
-use Rattle.cn_report.specs.Reading.Batch.{MayCome, clients_of_epochs}
-use Rattle.cn_report.specs.declared.reading.batch.BatchEpoch.{BatchEpoch}
+use Rattle.cn_texts.specs.Reading.Bounds.{bounds_of}
+use Rattle.cn_texts.specs.Reading.Batch.{MayCome, clients_of_epochs}
+use Rattle.cn_texts.specs.declared.reading.batch.BatchEpoch.{BatchEpoch}
 use Rattle.cn_renamer.specs.Floors.{HaveWalked, runner_after}
 use Rattle.cn_renamer.proofs.Floors.{after-both, few-came, many-held, none-walked, same-network, walked-both}
 use Rattle.cn_renamer.proofs.epochs.run_in_turn.Goals as goal

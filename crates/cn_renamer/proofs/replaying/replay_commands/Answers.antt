@@ -1,5 +1,5 @@
-use Rattle.cn_report.proofs.CallerLemmas.{written-map}
-use Rattle.cn_report.specs.Writing.Written.{written_by}
+use Rattle.cn_texts.proofs.CallerLemmas.{written-map}
+use Rattle.cn_texts.specs.Writing.Written.{written_by}
 use Rattle.cn_renamer.specs.Outputs.{until_output}
 use Rattle.cn_renamer.specs.Replay.{IsReplayOfCommands}
 use Rattle.cn_renamer.proofs.replaying.replay_commands.Goals as goal

@@ -1,9 +1,9 @@
 use Rattle.std.proofs.Common.{[], None, ap}
 use Rattle.std.proofs.lemmas.Result.{err_from_is_err_and}
 use Rattle.cn_ledger.specs.Answers.{HadMemory}
-use Rattle.cn_report.proofs.CallerLemmas.{written-map}
-use Rattle.cn_report.specs.Writing.Replay.{IsShowable}
-use Rattle.cn_report.specs.Writing.Written.{First}
+use Rattle.cn_texts.proofs.CallerLemmas.{written-map}
+use Rattle.cn_texts.specs.Writing.Replay.{IsShowable}
+use Rattle.cn_texts.specs.Writing.Written.{First}
 use Rattle.cn_epoch.specs.History.{Epochs}
 use Rattle.cn_renamer.specs.Replay.{IsReplayText}
 use Rattle.cn_renamer.proofs.Kept.{all-kept, fit-kept, replay-is}

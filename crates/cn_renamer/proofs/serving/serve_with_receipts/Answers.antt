@@ -2,9 +2,9 @@ use Rattle.std.proofs.Common.{rules, ◌≡◌, List, ℕ}
 use Rattle.std.proofs.lemmas.Result.{err_from_is_err_and}
 use Rattle.cn_tables.specs.Network.{Network}
 use Rattle.cn_ledger.specs.declared.record.EpochRecord.{EpochRecord}
-use Rattle.cn_report.specs.Writing.EpochRecords.{AreRecordsOf}
-use Rattle.cn_report.specs.Writing.Written.{First, HasWritten, Whole}
-use Rattle.cn_report.specs.declared.reading.batch.BatchEpoch.{BatchEpoch}
+use Rattle.cn_texts.specs.Writing.EpochRecords.{AreRecordsOf}
+use Rattle.cn_texts.specs.Writing.Written.{First, HasWritten, Whole}
+use Rattle.cn_texts.specs.declared.reading.batch.BatchEpoch.{BatchEpoch}
 use Rattle.cn_floor.specs.Ends.{QuietValue}
 use Rattle.cn_nets.specs.Net.{IsNetworkOf}
 use Rattle.cn_renamer.specs.Floors.{HaveWalked, IsRunOnFloors, new_runner}

@@ -1,7 +1,7 @@
 use Rattle.cn_report.proofs.Common.{drop}
-use Rattle.cn_report.specs.Reading.Arrival.{arrivals_in}
-use Rattle.cn_report.specs.Reading.Heading.{heading_in}
-use Rattle.cn_report.proofs.ReadingLemmas.UniqueBatch.{unique}
+use Rattle.cn_texts.specs.Reading.Arrival.{arrivals_in}
+use Rattle.cn_texts.specs.Reading.Heading.{heading_in}
+use Rattle.cn_report.proofs.UniqueBatch.{unique}
 use Rattle.cn_report.proofs.laws.batch_is_one.Goals as goal
 
 pub returns : goal.returns

@@ -1,5 +1,0 @@
-use Rattle.cn_renamer.proofs.OneText.{one-wiring}
-use Rattle.cn_renamer.proofs.laws.a_wiring_has_one_text.Goals as goal
-
-pub returns : goal.returns
-returns c = one-wiring

@@ -1,9 +1,0 @@
-use Rattle.cn_report.specs.Grants.ListText.{grants_text}
-use Rattle.cn_report.proofs.WritingLemmas.Putting.{put-all, put-then, text-held}
-use Rattle.cn_report.proofs.callers.rendering.render_grants.Goals as goal
-
-pub returns-in-Ok : goal.returns-in-Ok
-returns-in-Ok c =
-    let (text, is, grows) = c.in-Ok.ensures c.new-text.result (grants_text c.args.records.now)
-    (put-all c.in_ok-pieces.ensures (put-then c.send_header.ensures c.send_names_of.ensures)) in
-    text-held _ _ text _ c.new-text.ensures.items grows is

@@ -1,0 +1,9 @@
+use Rattle.cn_report.proofs.Common.{map, take, flat_map, Puts}
+use Rattle.cn_report.specs.Callers.{plain_tight}
+use Rattle.cn_texts.specs.Grants.TightText.{tight_line}
+use Rattle.cn_report.proofs.checking.send_tight_epochs.Given as goal
+
+abbrev pub invariant-loop-epoch : goal.invariant-loop-epoch
+invariant-loop-epoch g l =
+    Puts g.W.Write.contents l.initial.writer l.writer l.initial.pieces l.pieces
+    (flat_map tight_line (take l.epoch-index (map plain_tight l.epochs)))

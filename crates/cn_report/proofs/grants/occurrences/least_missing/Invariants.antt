@@ -1,6 +1,0 @@
-use Rattle.cn_report.proofs.Common.{◌≡◌, ◌<◌, ℕ, get_or}
-use Rattle.cn_report.specs.Grants.Occurrences.{numbers_of}
-use Rattle.cn_report.proofs.grants.occurrences.least_missing.Given as goal
-
-abbrev pub invariant-loop-at : goal.invariant-loop-at
-invariant-loop-at l = record { own : (k : ℕ) → k < l.at → get_or (numbers_of l.occurrences) k 0 ≡ k }

@@ -1,7 +1,0 @@
-use Rattle.cn_report.specs.Grants.TightText.{tight_end}
-use Rattle.cn_report.proofs.WritingLemmas.Putting.{put-then}
-use Rattle.cn_report.proofs.grants.tight.send_end.Goals as goal
-
-pub returns : goal.returns
-unfolding tight_end
-returns g c = put-then c.send_number.ensures (put-then c.send_number-2.ensures c.put.ensures)

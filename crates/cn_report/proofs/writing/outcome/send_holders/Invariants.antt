@@ -1,6 +1,0 @@
-use Rattle.cn_report.specs.Writing.Outcome.{name_lines}
-use Rattle.cn_report.proofs.Common.{Puts}
-use Rattle.cn_report.proofs.writing.outcome.send_holders.Given as goal
-
-abbrev pub invariant-loop-name : goal.invariant-loop-name
-invariant-loop-name g l = Puts g.W.Write.contents l.initial.writer l.writer l.initial.pieces l.pieces (name_lines l.name l.holders)

@@ -1,0 +1,337 @@
+-- Numbers whose occurrences were sorted: where one stands at an earlier place, and which are missing.
+use Rattle.cn_texts.proofs.Common.{◌≡◌, ◌<◌, ◌≤◌, ◌+◌, ◌-◌, ℕ, List, [], ◌∷◌, ◌++◌, true, false, Option, Some, None, length, get_or, refl, arith, suc, zero, sym, ap, ◌∙◌, inl, inr, map, subst, ◌⊎◌, All, nat_eq, range_with_len, All-get_or, get_or-map, length-map, ne_eqb, eq-eqb, leb_tells}
+use Rattle.std.proofs.Math.Dec.{leb}
+use Rattle.std.specs.Prelude.{IfSome, MatchOption}
+use Rattle.std.specs.List.Sorted.{IsPermutation, IsSorted, IsStrictlyIncreasing}
+use Rattle.std.specs.Ordering.{is_lt, nat_cmp, ordering_then}
+use Rattle.std.proofs.lemmas.List.Elements.{All-from_get_or}
+use Rattle.std.proofs.lemmas.List.Folds.{list_any_at, list_any_none}
+use Rattle.std.proofs.lemmas.List.Sorted.{All-permutation, IsPermutation-map, length_permutation, list_any-IsPermutation}
+use Rattle.cn_spec.specs.Sums.{times}
+use Rattle.cn_spec.proofs.CallerLemmas.{times-inside, times-order, times-place, times-two}
+use Rattle.cn_texts.specs.Grants.Occurrences.{IsFirstRepeat, IsRepeat, has_number, numbers_of, occurrences_from}
+use Rattle.cn_texts.specs.declared.grants.occurrences.Occurrence.{Occurrence}
+
+-- ---- occurrences in order
+
+abbrev pub occurrence : ℕ → ℕ → Occurrence
+occurrence number place = record { number = number; place = place }
+
+pub no-occurrences : (k : ℕ) → [] ≡ occurrences_from k []
+unfolding occurrences_from
+no-occurrences k = refl
+
+pub length-occurrences : (k : ℕ) (ns : List ℕ) → length (occurrences_from k ns) ≡ length ns
+unfolding occurrences_from
+length-occurrences k [] = refl
+length-occurrences k (n ∷ ns) = omega (arith, length-occurrences (k + 1) ns)
+
+pub numbers-occurrences : (k : ℕ) (ns : List ℕ) → numbers_of (occurrences_from k ns) ≡ ns
+unfolding occurrences_from
+numbers-occurrences k [] = refl
+numbers-occurrences k (n ∷ ns) = ap (λ (l : List ℕ). n ∷ l) (numbers-occurrences (k + 1) ns)
+
+places-occurrences : (k : ℕ) (ns : List ℕ) → map (λ (o : Occurrence). o.place) (occurrences_from k ns) ≡ range_with_len k (length ns)
+unfolding occurrences_from
+places-occurrences k [] = refl
+places-occurrences k (n ∷ ns) = ap (λ (l : List ℕ). k ∷ l) (places-occurrences (k + 1) ns)
+
+pub occurrences-more : (k : ℕ) (ns : List ℕ) (n : ℕ)
+    → occurrences_from k (ns ++ n ∷ []) ≡ occurrences_from k ns ++ occurrence n (k + length ns) ∷ []
+unfolding occurrences_from
+occurrences-more k [] n = ap (λ (p : ℕ). occurrence n p ∷ []) (let same : k ≡ k + 0 = omega arith in same)
+occurrences-more k (m ∷ ns) n =
+    ap (λ (l : List Occurrence). occurrence m k ∷ l) (occurrences-more (k + 1) ns n
+    ∙ ap (λ (p : ℕ). occurrences_from (k + 1) ns ++ occurrence n p ∷ [])
+    (let same : k + 1 + length ns ≡ k + length (m ∷ ns) = omega arith in same))
+
+-- each has the number that stands at its place
+occurrence-at : (k : ℕ) (ns : List ℕ) (i : ℕ) (d : Occurrence) → i < length ns
+    → get_or (occurrences_from k ns) i d ≡ occurrence (get_or ns i 0) (k + i)
+unfolding occurrences_from
+occurrence-at k [] i d h = absurd (omega (arith, h))
+occurrence-at k (n ∷ ns) zero d h = ap (λ (p : ℕ). occurrence n p) (let same : k ≡ k + 0 = omega arith in same)
+occurrence-at k (n ∷ ns) (suc i) d h = occurrence-at (k + 1) ns i d (omega (arith, h))
+    ∙ ap (λ (p : ℕ). occurrence (get_or ns i 0) p) (let same : k + 1 + i ≡ k + suc i = omega arith in same)
+
+IsPlaced : List ℕ → Occurrence → Type 0
+IsPlaced ns o = (o.place < length ns) × (get_or ns o.place 0 ≡ o.number)
+
+all-placed : (ns : List ℕ) → All (IsPlaced ns) (occurrences_from 0 ns)
+unfolding IsPlaced
+all-placed ns = All-from_get_or (IsPlaced ns) (occurrences_from 0 ns) (occurrence 0 0) (λ i h.
+    let within : i < length ns = omega (arith, h, length-occurrences 0 ns) in
+    let same : 0 + i ≡ i = omega arith in
+    subst (λ (o : Occurrence). (o.place < length ns) × (get_or ns o.place 0 ≡ o.number))
+    (sym (occurrence-at 0 ns i (occurrence 0 0) within ∙ ap (λ (p : ℕ). occurrence (get_or ns i 0) p) same)) (within, refl))
+
+-- ---- two rows of numbers, of which the first never falls, and the second does not where the first stands still
+
+step : (a b p q : ℕ) → is_lt (ordering_then (nat_cmp b a) (nat_cmp q p)) ≡ false → (a < b) ⊎ ((a ≡ b) × (p ≤ q))
+step a b p q h = each (leb_tells (suc b) a) (leb_tells (suc a) b)
+  where
+    same : a ≡ b → ((leb (suc q) p ≡ true) × (suc q ≤ p)) ⊎ ((leb (suc q) p ≡ false) × (p < suc q)) → leb (suc b) a ≡ false
+        → (a < b) ⊎ ((a ≡ b) × (p ≤ q))
+    same e (inl w) back = cc (rw (back, eq-eqb b a (sym e), w.0) at h)
+    same e (inr w) back = inr (e, omega (arith, w.1))
+
+    each : ((leb (suc b) a ≡ true) × (suc b ≤ a)) ⊎ ((leb (suc b) a ≡ false) × (a < suc b))
+        → ((leb (suc a) b ≡ true) × (suc a ≤ b)) ⊎ ((leb (suc a) b ≡ false) × (b < suc a)) → (a < b) ⊎ ((a ≡ b) × (p ≤ q))
+    each (inl w) e = cc (rw w.0 at h)
+    each (inr w) (inl more) = inl (omega (arith, more.1))
+    each (inr w) (inr less) = same (omega (arith, w.1, less.1)) (leb_tells (suc q) p) w.0
+
+module _ (N P : ℕ → ℕ) (size : ℕ) (steps : (k : ℕ) → suc k < size → (N k < N (suc k)) ⊎ ((N k ≡ N (suc k)) × (P k ≤ P (suc k)))) where
+  never-falls : (i j : ℕ) → i ≤ j → j < size → N i ≤ N j
+  never-falls i zero le h = omega (arith, ap N (let same : i ≡ 0 = omega (arith, le) in same))
+  never-falls i (suc j) le h = elim (leb_tells i j) [
+    | inl w ↦ elim (steps j h) [
+      | inl less ↦ omega (arith, never-falls i j w.1 (omega (arith, h)), less)
+      | inr same ↦ omega (arith, never-falls i j w.1 (omega (arith, h)), same.0)
+    ]
+    | inr w ↦ omega (arith, ap N (let same : i ≡ suc j = omega (arith, le, w.1) in same))
+  ]
+
+  in-turn : (i j : ℕ) → i ≤ j → j < size → N i ≡ N j → P i ≤ P j
+  in-turn i zero le h e = omega (arith, ap P (let same : i ≡ 0 = omega (arith, le) in same))
+  in-turn i (suc j) le h e = elim (leb_tells i j) [
+    | inl w ↦ elim (steps j h) [
+      | inl less ↦ absurd (omega (arith, never-falls i j w.1 (omega (arith, h)), less, e))
+      | inr same ↦ omega (arith, in-turn i j w.1 (omega (arith, h)) (e ∙ sym same.0), same.1)
+    ]
+    | inr w ↦ omega (arith, ap P (let same : i ≡ suc j = omega (arith, le, w.1) in same))
+  ]
+
+  -- before a later one stands one with its number
+  neighbour : (i j : ℕ) → i < j → j < size → N i ≡ N j → (b : ℕ) × (suc b ≡ j) × (N b ≡ N (suc b))
+  neighbour i zero less h e = absurd (omega (arith, less))
+  neighbour i (suc b) less h e = elim (steps b h) [
+    | inl more ↦ absurd (omega (arith, never-falls i b (omega (arith, less)) (omega (arith, h)), more, e))
+    | inr same ↦ (b, refl, same.0)
+  ]
+
+-- ---- the first place whose number stands at an earlier one
+
+-- the number and the place of the occurrence at an index
+abbrev pub number_at : List Occurrence → ℕ → ℕ
+number_at s k = (get_or s k (occurrence 0 0)).number
+
+abbrev pub place_at : List Occurrence → ℕ → ℕ
+place_at s k = (get_or s k (occurrence 0 0)).place
+
+-- the one at this index has the number of the one before it
+abbrev pub IsAgain : List Occurrence → ℕ → Type 0
+IsAgain s b = (0 < b) × (number_at s (b - 1) ≡ number_at s b)
+
+-- the least place of those below an index that do
+pub IsSeen : List Occurrence → ℕ → Option ℕ → Type 0
+IsSeen s at first = MatchOption first ((b : ℕ) → b < at → IsAgain s b → ⊥)
+    (λ place. ((b : ℕ) × (b < length s) × IsAgain s b × (place_at s b ≡ place)) × ((b : ℕ) → b < at → IsAgain s b → place ≤ place_at s b))
+
+pub seen-first : (s : List Occurrence) → IsSeen s 1 None
+unfolding IsSeen
+seen-first s = λ b h again. omega (arith, h, again.0)
+
+cut : (b at : ℕ) → b < at + 1 → (b < at) ⊎ (b ≡ at)
+cut b at h = elim (leb_tells (suc b) at) [ inl w ↦ inl (omega (arith, w.1)) | inr w ↦ inr (omega (arith, w.1, h)) ]
+
+-- one index more, which does not
+pub seen-other : (s : List Occurrence) (at : ℕ) (first : Option ℕ) → (number_at s (at - 1) ≡ number_at s at → ⊥)
+    → IsSeen s at first → IsSeen s (at + 1) first
+unfolding IsSeen
+seen-other s at None other seen = λ b h again.
+    elim (cut b at h) [ inl k ↦ seen b k again | inr is ↦ other (subst (IsAgain s) is again).1 ]
+seen-other s at (Some place) other ((b, h, again, is), least) = (
+  (b, h, again, is),
+  λ c k same. elim (cut c at k) [ inl l ↦ least c l same | inr here ↦ absurd (other (subst (IsAgain s) here same).1) ],
+)
+
+-- one index more, which does
+pub seen-again : (s : List Occurrence) (at : ℕ) (first : Option ℕ) (place : ℕ) → at < length s → IsAgain s at → place ≤ place_at s at
+    → IfSome first (λ other. place ≤ other) → (place ≡ place_at s at) ⊎ (first ≡ Some place)
+    → IsSeen s at first → IsSeen s (at + 1) (Some place)
+unfolding IsSeen
+seen-again s at None place inside again low lower one seen = (
+  elim one [ inl is ↦ (at, inside, again, sym is) | inr is ↦ cc is ],
+  λ c k same. elim (cut c at k) [ inl l ↦ absurd (seen c l same) | inr here ↦ omega (arith, low, ap (place_at s) here) ],
+)
+seen-again s at (Some other) place inside again low lower one ((b, h, was, is), least) = (
+  elim one [ inl here ↦ (at, inside, again, sym here) | inr e ↦ (b, h, was, is ∙ some-is e) ],
+  λ c k same. elim (cut c at k) [
+    | inl l ↦ omega (arith, least c l same, lower)
+    | inr here ↦ omega (arith, low, ap (place_at s) here)
+  ],
+)
+  where
+    some-is : Some other ≡ Some place → other ≡ place
+    some-is e = ap (λ (o : Option ℕ). get o other) e
+      where
+        get : Option ℕ → ℕ → ℕ
+        get None d = d
+        get (Some x) d = x
+
+-- at the end
+pub seen-all : (s : List Occurrence) (at : ℕ) (first : Option ℕ) → length s ≤ at → IsSeen s at first → IsSeen s (length s) first
+unfolding IsSeen
+seen-all s at None past seen = λ b h again. seen b (omega (arith, h, past)) again
+seen-all s at (Some place) past (there, least) = (there, λ c k same. least c (omega (arith, k, past)) same)
+
+module _ (ns : List ℕ) (s : List Occurrence) (order : IsPermutation (occurrences_from 0 ns) s)
+    (sorted : IsSorted (λ (x y : Occurrence). ordering_then (nat_cmp x.number y.number) (nat_cmp x.place y.place)) s) where
+  as-many : length s ≡ length ns
+  as-many = length_permutation (occurrences_from 0 ns) s order ∙ length-occurrences 0 ns
+
+  steps : (k : ℕ) → suc k < length s
+      → (number_at s k < number_at s (suc k)) ⊎ ((number_at s k ≡ number_at s (suc k)) × (place_at s k ≤ place_at s (suc k)))
+  steps k h =
+      let next : k + 1 ≡ suc k = omega arith in
+      step (number_at s k) (number_at s (suc k)) (place_at s k) (place_at s (suc k))
+      (subst (λ (j : ℕ). is_lt (ordering_then (nat_cmp (number_at s j) (number_at s k)) (nat_cmp (place_at s j) (place_at s k))) ≡ false)
+      next (sorted k (occurrence 0 0) (omega arith) (omega (arith, h))))
+
+  placed : (i : ℕ) → i < length s → (place_at s i < length ns) × (get_or ns (place_at s i) 0 ≡ number_at s i)
+  unfolding IsPlaced
+  placed i h = All-get_or (IsPlaced ns) s i (occurrence 0 0) h
+      (All-permutation (IsPlaced ns) (occurrences_from 0 ns) s order (all-placed ns))
+
+  places : (p : ℕ) → p < length ns → times p (map (λ (o : Occurrence). o.place) s) ≡ 1
+  places p h =
+      times-order (map (λ (o : Occurrence). o.place) (occurrences_from 0 ns)) (map (λ (o : Occurrence). o.place) s) p
+      (IsPermutation-map (λ (o : Occurrence). o.place) (occurrences_from 0 ns) s order)
+      ∙ ap (times p) (places-occurrences 0 ns) ∙ times-inside p 0 (length ns) (omega arith) (omega (arith, h))
+
+  at_index : (i : ℕ) → i < length s → get_or (map (λ (o : Occurrence). o.place) s) i 0 ≡ place_at s i
+  at_index i h = get_or-map (λ (o : Occurrence). o.place) s i (occurrence 0 0) 0 h
+
+  apart : (i j : ℕ) → i < j → j < length s → place_at s i ≡ place_at s j → ⊥
+  apart i j less h e =
+      let size = length-map s (λ (o : Occurrence). o.place) in
+      let same : get_or (map (λ (o : Occurrence). o.place) s) i 0 ≡ get_or (map (λ (o : Occurrence). o.place) s) j 0 =
+      at_index i (omega (arith, less, h)) ∙ e ∙ sym (at_index j h) in
+      omega (
+        arith,
+        times-two (map (λ (o : Occurrence). o.place) s) i j less (omega (arith, h, size)) same,
+        places (place_at s j) (placed j h).0,
+        ap (λ (p : ℕ). times p (map (λ (o : Occurrence). o.place) s)) (at_index j h),
+      )
+
+  find : (p : ℕ) → p < length ns → (i : ℕ) × (i < length s) × (place_at s i ≡ p) × (number_at s i ≡ get_or ns p 0)
+  find p h =
+      let (i, within, is) = times-place (map (λ (o : Occurrence). o.place) s) p (omega (arith, places p h)) in
+      let inside : i < length s = omega (arith, within, length-map s (λ (o : Occurrence). o.place)) in
+      let here : place_at s i ≡ p = sym (at_index i inside) ∙ is in
+      (i, inside, here, sym (placed i inside).1 ∙ ap (λ (q : ℕ). get_or ns q 0) here)
+
+  -- a place whose number stands at an earlier one is found
+  complete : (p : ℕ) → p < length ns → IsRepeat ns p → (b : ℕ) × (b < length s) × IsAgain s b × (place_at s b ≡ p)
+  complete p h (q, less, e) =
+      let (i, i-in, i-is, i-number) = find q (omega (arith, less, h)) in
+      let (j, j-in, j-is, j-number) = find p h in
+      let same : number_at s i ≡ number_at s j = i-number ∙ e ∙ sym j-number in
+      later i i-in i-is j j-in j-is same (leb_tells (suc i) j)
+    where
+      later : (i : ℕ) → i < length s → place_at s i ≡ q → (j : ℕ) → j < length s → place_at s j ≡ p → number_at s i ≡ number_at s j
+          → ((leb (suc i) j ≡ true) × (suc i ≤ j)) ⊎ ((leb (suc i) j ≡ false) × (j < suc i))
+          → (b : ℕ) × (b < length s) × IsAgain s b × (place_at s b ≡ p)
+      later i i-in i-is j j-in j-is same (inl w) =
+          let (b, next, again) = neighbour (number_at s) (place_at s) (length s) steps i j (omega (arith, w.1)) j-in same in
+          let before : j - 1 ≡ b = omega (arith, next) in
+          (j, j-in, (omega (arith, w.1), ap (number_at s) before ∙ again ∙ ap (number_at s) next), j-is)
+      later i i-in i-is j j-in j-is same (inr w) =
+          let turn = in-turn (number_at s) (place_at s) (length s) steps j i (omega (arith, w.1)) i-in (sym same) in
+          absurd (omega (arith, turn, i-is, j-is, less))
+
+  -- and no other
+  sound : (b : ℕ) → b < length s → IsAgain s b → (place_at s b < length ns) × IsRepeat ns (place_at s b)
+  sound b h (some, e) =
+      let before : b - 1 < b = omega (arith, some) in
+      let (within, here) = placed b h in
+      let there = (placed (b - 1) (omega (arith, h))).1 in
+      let le = in-turn (number_at s) (place_at s) (length s) steps (b - 1) b (omega arith) h e in
+      (within, (place_at s (b - 1), less (leb_tells (suc (place_at s (b - 1))) (place_at s b)) before le, there ∙ e ∙ sym here))
+    where
+      less : ((leb (suc (place_at s (b - 1))) (place_at s b) ≡ true) × (suc (place_at s (b - 1)) ≤ place_at s b))
+          ⊎ ((leb (suc (place_at s (b - 1))) (place_at s b) ≡ false) × (place_at s b < suc (place_at s (b - 1)))) → b - 1 < b
+          → place_at s (b - 1) ≤ place_at s b → place_at s (b - 1) < place_at s b
+      less (inl w) before le = omega (arith, w.1)
+      less (inr w) before le = absurd (apart (b - 1) b before h (omega (arith, w.1, le)))
+
+  pub repeat-first : (first : Option ℕ) → IsSeen s (length s) first → IsFirstRepeat ns first
+  unfolding IsSeen
+  repeat-first None seen = λ place h again. let (b, k, is, here) = complete place h again in seen b k is
+  repeat-first (Some place) ((b, h, again, is), least) = (
+    omega (arith, (sound b h again).0, is),
+    subst (IsRepeat ns) is (sound b h again).1,
+    λ p less other.
+        let (c, k, was, here) = complete p (omega (arith, less, (sound b h again).0, is)) other in
+        omega (arith, least c k was, here, less),
+  )
+
+  pub none-rising : IsSeen s (length s) None → IsStrictlyIncreasing (numbers_of s)
+  unfolding IsSeen
+  none-rising seen = λ k h.
+      let size = length-map s (λ (o : Occurrence). o.number) in
+      let next : k + 1 ≡ suc k = omega arith in
+      let here = get_or-map (λ (o : Occurrence). o.number) s k (occurrence 0 0) 0 (omega (arith, h, size)) in
+      let there = get_or-map (λ (o : Occurrence). o.number) s (k + 1) (occurrence 0 0) 0 (omega (arith, h, size)) in
+      let before : k + 1 - 1 ≡ k = omega arith in
+      elim (steps k (omega (arith, h, size))) [
+        | inl less ↦ omega (arith, less, here, there, ap (number_at s) next)
+        | inr same ↦ absurd (seen (k + 1) (omega (arith, h, size))
+            (omega arith, ap (number_at s) before ∙ same.0 ∙ ap (number_at s) (sym next)))
+      ]
+
+-- ---- the least number that is missing
+
+module _ (ns : List ℕ) (rising : IsStrictlyIncreasing ns) where
+  rises : (k : ℕ) → suc k < length ns → (get_or ns k 0 < get_or ns (suc k) 0) ⊎ ((get_or ns k 0 ≡ get_or ns (suc k) 0) × (0 ≤ 0))
+  rises k h =
+      let next : k + 1 ≡ suc k = omega arith in
+      inl (omega (arith, rising k (omega (arith, h)), ap (λ (j : ℕ). get_or ns j 0) next))
+
+  -- none is below its index
+  at_least : (k : ℕ) → k < length ns → k ≤ get_or ns k 0
+  at_least zero h = omega arith
+  at_least (suc k) h = elim (rises k h) [
+    | inl less ↦ omega (arith, at_least k (omega (arith, h)), less)
+    | inr same ↦
+        let next : k + 1 ≡ suc k = omega arith in
+        omega (arith, at_least k (omega (arith, h)), rising k (omega (arith, h)), ap (λ (j : ℕ). get_or ns j 0) next)
+  ]
+
+  -- where the first differs from its index the index is missing
+  pub missing-there : (at : ℕ) → at < length ns → ((k : ℕ) → k < at → get_or ns k 0 ≡ k) → (get_or ns at 0 ≡ at → ⊥)
+      → has_number ns at ≡ false
+  missing-there at h all other = list_any_none (nat_eq at) ns
+      (All-from_get_or (λ (n : ℕ). nat_eq at n ≡ false) ns 0 (λ i k. each i k (leb_tells (suc i) at)))
+    where
+      above : (i : ℕ) → i < length ns → at ≤ i → at < get_or ns i 0
+      above i k le =
+          let low = at_least at h in
+          let far = never-falls (λ j. get_or ns j 0) (λ _. 0) (length ns) rises at i le k in
+          elim (leb_tells (get_or ns at 0) at) [
+            | inl w ↦ absurd (other (omega (arith, w.1, low)))
+            | inr w ↦ omega (arith, w.1, far)
+          ]
+
+      each : (i : ℕ) → i < length ns → ((leb (suc i) at ≡ true) × (suc i ≤ at)) ⊎ ((leb (suc i) at ≡ false) × (at < suc i))
+          → nat_eq at (get_or ns i 0) ≡ false
+      each i k (inl w) = ne_eqb at (get_or ns i 0) (λ e. omega (arith, e, all i (omega (arith, w.1)), w.1))
+      each i k (inr w) = ne_eqb at (get_or ns i 0) (λ e. omega (arith, e, above i k (omega (arith, w.1))))
+
+-- numbers that are their own indexes are there
+pub own-there : (ns : List ℕ) (at : ℕ) → at ≤ length ns → ((k : ℕ) → k < at → get_or ns k 0 ≡ k) → (n : ℕ) → n < at
+    → has_number ns n ≡ true
+own-there ns at le all n h = list_any_at (nat_eq n) ns n 0 (omega (arith, le, h)) (eq-eqb n (get_or ns n 0) (sym (all n h)))
+
+pub own-more : (ns : List ℕ) (at : ℕ) → ((k : ℕ) → k < at → get_or ns k 0 ≡ k) → get_or ns at 0 ≡ at → (k : ℕ) → k < at + 1
+    → get_or ns k 0 ≡ k
+own-more ns at all here k h = elim (cut k at h) [
+  | inl less ↦ all k less
+  | inr is ↦ ap (λ (j : ℕ). get_or ns j 0) is ∙ here ∙ sym is
+]
+
+-- an order of the occurrences has the same numbers
+pub same-numbers : (xs ys : List Occurrence) → IsPermutation xs ys → (n : ℕ) → has_number (numbers_of ys) n ≡ has_number (numbers_of xs) n
+same-numbers xs ys order n = sym (list_any-IsPermutation (nat_eq n) (numbers_of xs) (numbers_of ys)
+    (IsPermutation-map (λ (o : Occurrence). o.number) xs ys order))

@@ -1,0 +1,266 @@
+-- A list is tight exactly where no record has a cause and no epoch lacks a name.
+use Rattle.cn_texts.proofs.Common.{◌≡◌, ◌<◌, ◌≤◌, ◌+◌, ℕ, Bool, List, [], ◌∷◌, ◌++◌, true, false, Option, Some, None, length, map, take, drop, get_or, cond, refl, arith, suc, zero, sym, ap, ◌∙◌, inl, inr, subst, eqb, if◌then◌else◌, ◌==◌, ◌⊎◌, ◌≢◌, nat_lt, cons_option, list_any, IfErr, MatchResult, Result, Ok, Err, map-append, length-map, filter-append, eq-eqb, ne_eqb, lt-ltb, le-ltb, eqb_tells, leb_tells, Record}
+use Rattle.std.proofs.lemmas.Option.{none-some}
+use Rattle.cn_spec.specs.Sums.{times}
+use Rattle.cn_spec.proofs.CallerLemmas.{times-append, times-nil}
+use Rattle.cn_spec.proofs.CallerLemmas.{times-cons}
+use Rattle.cn_texts.specs.Reading.Faults.{IsClean, cause_by}
+use Rattle.cn_texts.specs.Grants.Granted.{first_cause, form_cause, grant_spelled, grants_spelled, has_client, has_name, of_epoch, spelled_cause, spelled_form, twice_cause}
+use Rattle.cn_texts.specs.Grants.TightList.{IsFirstWithCause, IsFlaw, IsOfReading, IsOutside, AreTightGrants, IsTightList, Lacks, grants_cause, grants_form, header_cause, record_cause, record_form}
+use Rattle.cn_texts.specs.declared.grants.record.Granted.{Granted}
+use Rattle.cn_texts.specs.declared.grants.record.GrantCause.{GrantCause}
+use Rattle.cn_texts.specs.declared.grants.record.GrantCause.TheVariants as cause
+use Rattle.cn_texts.specs.declared.grants.record.Flaw.{Flaw}
+use Rattle.cn_texts.specs.declared.grants.record.Flaw.TheVariants.{Read, Form, DuplicateClient, DuplicateName, Gap, Memory}
+use Rattle.cn_texts.proofs.GrantLemmas.CheckedGrants.{of-other, of_same}
+use Rattle.cn_spec.proofs.CallerLemmas.{all_below, at_most_once, once_each, once-there}
+
+-- a number that some grant has stands among theirs, and one that none has does not
+any-times : (f : Granted → ℕ) (n : ℕ) (gs : List Granted) → list_any (λ g. n == f g) gs ≡ true → 1 ≤ times n (map f gs)
+any-times f n [] h = cc h
+any-times f n (g ∷ gs) h = elim (eqb_tells n (f g)) [
+  | inl w ↦
+      let one : ◌≡◌ {A = ℕ} (cond (eqb (f g) n) 1 0) 1 = ap {B = ℕ} (λ q. cond q 1 0) (eq-eqb (f g) n (sym w.1)) in
+      omega (arith, times-cons n (f g) (map f gs), one)
+  | inr w ↦ omega (arith, times-cons n (f g) (map f gs), any-times f n gs (rw w.0 at h))
+]
+
+none-times : (f : Granted → ℕ) (n : ℕ) (gs : List Granted) → list_any (λ g. n == f g) gs ≡ false → times n (map f gs) ≡ 0
+none-times f n [] h = times-nil n
+none-times f n (g ∷ gs) h = elim (eqb_tells n (f g)) [
+  | inl w ↦ cc (rw w.0 at h)
+  | inr w ↦
+      let none : ◌≡◌ {A = ℕ} (cond (eqb (f g) n) 1 0) 0 = ap {B = ℕ} (λ q. cond q 1 0) (ne_eqb (f g) n (λ x. w.1 (sym x))) in
+      omega (arith, times-cons n (f g) (map f gs), none, none-times f n gs (rw w.0 at h))
+]
+
+-- of two causes none, where the first of them is none
+first_none : (a b : Option GrantCause) → first_cause a b ≡ None → (a ≡ None) × (b ≡ None)
+first_none (Some x) b e = absurd (none-some x (sym e))
+first_none None b e = (refl, e)
+
+twice-none : (before : List Granted) (g : Granted) → twice_cause before g ≡ None → has_client g.client (of_epoch g.epoch before) ≡ false
+unfolding twice_cause
+twice-none before g = each (has_client g.client (of_epoch g.epoch before))
+  where
+    each : (b : Bool) → (if b then Some cause.DuplicateClient else if has_name g.name (of_epoch g.epoch before) then Some
+        cause.DuplicateName else None) ≡ None → b ≡ false
+    each true e = absurd (none-some _ (sym e))
+    each false e = refl
+
+-- no client stands twice in an epoch
+abbrev pub AreOnce : List Granted → Type 0
+AreOnce grants = (e n : ℕ) → times n (map (λ (g : Granted). g.client) (of_epoch e grants)) ≤ 1
+
+pub once-next : (most : ℕ) (before : List Granted) (g : Granted) → AreOnce before → spelled_cause most before (Some g) ≡ None
+    → AreOnce (before ++ g ∷ [])
+once-next most before g once none e n = elim (eqb_tells g.epoch e) [
+  | inl w ↦ rw (of_same before g e w.1) (here w.1)
+  | inr w ↦ rw (of-other before g e w.1) (once e n)
+]
+  where
+    free : has_client g.client (of_epoch g.epoch before) ≡ false
+    free = twice-none before g (first_none (form_cause most before g) (twice_cause before g) none).1
+
+    -- its own client is one more of those that stand there, of which it was none
+    here : g.epoch ≡ e → times n (map (λ (g : Granted). g.client) (of_epoch e before ++ g ∷ [])) ≤ 1
+    here same =
+        let clients : List ℕ = map (λ (g : Granted). g.client) (of_epoch e before) in
+        let more : times n (map (λ (g : Granted). g.client) (of_epoch e before ++ g ∷ [])) ≡ times n clients + cond (eqb g.client n) 1 0 =
+        omega (
+          arith,
+          ap (times n) (map-append (λ (g : Granted). g.client) (of_epoch e before) (g ∷ [])),
+          times-append n clients (g.client ∷ []),
+          times-cons n g.client [],
+          times-nil n,
+        ) in
+        elim (eqb_tells g.client n) [
+          | inl w ↦
+              let none : times n clients ≡ 0 =
+              (λ i. times (sym w.1 i) (map (λ (g : Granted). g.client) (of_epoch (sym same i) before)))
+              ∙ none-times (λ g. g.client) g.client (of_epoch g.epoch before) free in
+              let one : ◌≡◌ {A = ℕ} (cond (eqb g.client n) 1 0) 1 = ap {B = ℕ} (λ q. cond q 1 0) w.0 in
+              omega (arith, more, none, one)
+          | inr w ↦
+              let other : ◌≡◌ {A = ℕ} (cond (eqb g.client n) 1 0) 0 = ap {B = ℕ} (λ q. cond q 1 0) w.0 in
+              omega (arith, more, once e n, other)
+        ]
+
+-- a cause that another implies
+module _ (header : Record → Option GrantCause) (one other : List Record → Record → Option GrantCause) where
+  weaker : ((before : List Record) (fields : Record) → one before fields ≡ None → other before fields ≡ None)
+      → (records : List Record) (at : ℕ) → cause_by header one records at ≡ None
+      → cause_by header other records at ≡ None
+  unfolding cause_by
+  weaker less records at = each (at == 0) (nat_lt at (length records))
+    where
+      each : (b d : Bool)
+          → (if b then header (get_or records 0 []) else if d then one (take at records) (get_or records at []) else None) ≡ None
+          → (if b then header (get_or records 0 []) else if d then other (take at records) (get_or records at []) else None) ≡ None
+      each true d e = e
+      each false true e = less (take at records) (get_or records at []) e
+      each false false e = e
+
+form_of : (most : ℕ) (before : List Granted) (spelled : Option Granted) → spelled_cause most before spelled ≡ None
+    → spelled_form most before spelled ≡ None
+form_of most before None e = e
+form_of most before (Some g) e = (first_none (form_cause most before g) (twice_cause before g) e).0
+
+-- an epoch that lacks no name is tight
+epoch-tight : (grants : List Granted) → ((n : ℕ) → times n (map (λ (g : Granted). g.client) grants) ≤ 1)
+    → ((n : ℕ) → n < length grants → has_name n grants ≡ true) → AreTightGrants grants
+epoch-tight grants once there = record {
+  clients = once;
+  names = all_below (length grants) (map (λ (g : Granted). g.name) grants) (length-map grants (λ (g : Granted). g.name))
+      (λ n h. any-times (λ g. g.name) n grants (there n h));
+}
+
+not_false : (b : Bool) → (b ≡ false → ⊥) → b ≡ true
+not_false true h = refl
+not_false false h = absurd (h refl)
+
+-- the list is tight where no record has a cause, no client stands twice in an epoch, and no epoch lacks a name
+pub list-tight : (most : ℕ) (records : List Record) (grants : List Granted) → IsClean (grants_cause most) records
+    → grants_spelled (drop 1 records) ≡ grants → AreOnce grants → ((e n : ℕ) → Lacks grants e n → ⊥) → IsTightList most records
+list-tight most records grants clean spells once full = record {
+  form = λ at. weaker header_cause (record_cause most) (record_form most)
+      (λ before fields. form_of most (grants_spelled (drop 1 before)) (grant_spelled fields)) records at (clean at);
+  tight = λ e. rw spells (epoch-tight (of_epoch e grants) (once e)
+      (λ n h. not_false (has_name n (of_epoch e grants)) (λ f. full e n (h, f))));
+}
+
+-- the other way: each record of a tight list has no cause
+module _ (gb gm : List Granted) (g : Granted) (tight : AreTightGrants (of_epoch g.epoch (gb ++ g ∷ gm))) where
+  around : of_epoch g.epoch (gb ++ g ∷ gm) ≡ of_epoch g.epoch gb ++ g ∷ of_epoch g.epoch gm
+  around = filter-append (λ (x : Granted). x.epoch == g.epoch) gb (g ∷ gm) ∙ ap (λ (l : List Granted). of_epoch g.epoch gb ++ l) one
+    where
+      one : of_epoch g.epoch (g ∷ gm) ≡ g ∷ of_epoch g.epoch gm
+      one = rw (eq-eqb g.epoch g.epoch refl) refl
+
+  first_time : (f : Granted → ℕ) → times (f g) (map f (of_epoch g.epoch (gb ++ g ∷ gm))) ≤ 1
+      → list_any (λ x. f g == f x) (of_epoch g.epoch gb) ≡ false
+  first_time f most = each (list_any (λ x. f g == f x) (of_epoch g.epoch gb)) refl
+    where
+      each : (b : Bool) → list_any (λ x. f g == f x) (of_epoch g.epoch gb) ≡ b → list_any (λ x. f g == f x) (of_epoch g.epoch gb) ≡ false
+      each false e = e
+      each true e =
+          let whole : times (f g) (map f (of_epoch g.epoch (gb ++ g ∷ gm)))
+          ≡ times (f g) (map f (of_epoch g.epoch gb) ++ f g ∷ map f (of_epoch g.epoch gm)) =
+          ap (λ (l : List Granted). times (f g) (map f l)) around
+          ∙ ap (times (f g)) (map-append f (of_epoch g.epoch gb) (g ∷ of_epoch g.epoch gm)) in
+          let one : ◌≡◌ {A = ℕ} (cond (eqb (f g) (f g)) 1 0) 1 = ap {B = ℕ} (λ q. cond q 1 0) (eq-eqb (f g) (f g) refl) in
+          absurd (omega (
+            arith,
+            most,
+            whole,
+            one,
+            any-times f (f g) (of_epoch g.epoch gb) e,
+            times-append (f g) (map f (of_epoch g.epoch gb)) (f g ∷ map f (of_epoch g.epoch gm)),
+            times-cons (f g) (f g) (map f (of_epoch g.epoch gm)),
+          ))
+
+  no-twice : twice_cause gb g ≡ None
+  unfolding twice_cause
+  no-twice =
+      let k = length (of_epoch g.epoch (gb ++ g ∷ gm)) in
+      let names : times g.name (map (λ (x : Granted). x.name) (of_epoch g.epoch (gb ++ g ∷ gm))) ≤ 1 =
+      omega (
+        arith,
+        once_each k (map (λ (x : Granted). x.name) (of_epoch g.epoch (gb ++ g ∷ gm))) tight.names g.name,
+        at_most_once k g.name,
+      ) in
+      rw (first_time (λ x. x.client) (tight.clients g.client), first_time (λ x. x.name) names) refl
+
+-- the grants round a record
+grants-round : (records : List Record) (m : ℕ) (g : Granted) → m < length records → grant_spelled (get_or records m []) ≡ Some g
+    → grants_spelled records ≡ grants_spelled (take m records) ++ g ∷ grants_spelled (drop (suc m) records)
+grants-round [] m g h is = absurd (omega (arith, h))
+grants-round (r ∷ records) zero g h is = rw is refl
+grants-round (r ∷ records) (suc m) g h is = each (grant_spelled r) (grants-round records m g (omega (arith, h)) is)
+  where
+    each : (spelled : Option Granted) → grants_spelled records
+        ≡ grants_spelled (take m records) ++ g ∷ grants_spelled (drop (suc m) records)
+        → cons_option spelled (grants_spelled records)
+        ≡ cons_option spelled (grants_spelled (take m records)) ++ g ∷ grants_spelled (drop (suc m) records)
+    each (Some x) more = ap (λ (l : List Granted). x ∷ l) more
+    each None more = more
+
+at-record : (most : ℕ) (r : Record) (records : List Record) (m : ℕ) → m < length records
+    → ((epoch : ℕ) → AreTightGrants (of_epoch epoch (grants_spelled records)))
+    → spelled_form most (grants_spelled (take m records)) (grant_spelled (get_or records m [])) ≡ None
+    → spelled_cause most (grants_spelled (take m records)) (grant_spelled (get_or records m [])) ≡ None
+at-record most r records m h tight = each (grant_spelled (get_or records m [])) refl
+  where
+    each : (spelled : Option Granted) → grant_spelled (get_or records m []) ≡ spelled
+        → spelled_form most (grants_spelled (take m records)) spelled ≡ None
+        → spelled_cause most (grants_spelled (take m records)) spelled ≡ None
+    each None is e = e
+    each (Some g) is e =
+        rw e (no-twice (grants_spelled (take m records)) (grants_spelled (drop (suc m) records)) g
+        (subst (λ (l : List Granted). AreTightGrants (of_epoch g.epoch l)) (grants-round records m g h is) (tight g.epoch)))
+
+tight_at : (most : ℕ) (records : List Record) (at : ℕ) → ((epoch : ℕ) → AreTightGrants (of_epoch epoch (grants_spelled (drop 1 records))))
+    → grants_form most records at ≡ None → grants_cause most records at ≡ None
+unfolding cause_by
+tight_at most records zero tight e = e
+tight_at most [] (suc m) tight e =
+    let past : nat_lt (suc m) 0 ≡ false = le-ltb (suc m) 0 (omega arith) in
+    let nonzero : (suc m == 0) ≡ false = ne_eqb (suc m) 0 (λ x. omega (arith, x)) in
+    rw (nonzero, past) refl
+tight_at most (r ∷ records) (suc m) tight e =
+    let nonzero : (suc m == 0) ≡ false = ne_eqb (suc m) 0 (λ x. omega (arith, x)) in
+    elim (leb_tells (suc m) (length records)) [
+      | inl w ↦
+          let far : nat_lt (suc m) (length (r ∷ records)) ≡ true = lt-ltb (suc m) (length (r ∷ records)) (omega (arith, w.1)) in
+          rw (nonzero, far) (at-record most r records m (omega (arith, w.1)) tight (rw (nonzero, far) at e))
+      | inr w ↦
+          let past : nat_lt (suc m) (length (r ∷ records)) ≡ false = le-ltb (suc m) (length (r ∷ records)) (omega (arith, w.1)) in
+          rw (nonzero, past) refl
+    ]
+
+tight-clean : (most : ℕ) (records : List Record) → IsTightList most records → IsClean (grants_cause most) records
+tight-clean most records t at = tight_at most records at t.tight (t.form at)
+
+tight-full : (grants : List Granted) → AreTightGrants grants → (n : ℕ) → n < length grants → has_name n grants ≡ false → ⊥
+tight-full grants t n h e =
+    omega (
+      arith,
+      none-times (λ g. g.name) n grants e,
+      once_each (length grants) (map (λ (g : Granted). g.name) grants) t.names n,
+      once-there (length grants) n h,
+    )
+
+no_first : (most : ℕ) (records : List Record) (at : ℕ) (why : GrantCause) → (IsOfReading why → ⊥) → IsFirstWithCause most records at why
+    → IsTightList most records → ⊥
+no_first most records at why inside fault t =
+    elim fault.reported [
+      | inl e ↦ none-some why (sym (tight-clean most records t at) ∙ e)
+      | inr other ↦ inside other
+    ]
+
+is-form : IsOfReading cause.Form → ⊥
+is-form (inl e) = cc e
+is-form (inr e) = cc e
+
+is-client : IsOfReading cause.DuplicateClient → ⊥
+is-client (inl e) = cc e
+is-client (inr e) = cc e
+
+is_name : IsOfReading cause.DuplicateName → ⊥
+is_name (inl e) = cc e
+is_name (inr e) = cc e
+
+-- a tight list has no flaw but a failed read and want of memory
+pub tight-flaw : (most : ℕ) (records : List Record) (flaw : Flaw) → IsFlaw most records flaw → IsTightList most records → IsOutside flaw
+tight-flaw most records (Read at) h t = tt
+tight-flaw most records Memory h t = tt
+tight-flaw most records (Form at) h t = no_first most records at cause.Form is-form h t
+tight-flaw most records (DuplicateClient at) h t = no_first most records at cause.DuplicateClient is-client h t
+tight-flaw most records (DuplicateName at) h t = no_first most records at cause.DuplicateName is_name h t
+tight-flaw most records (Gap epoch name) h t =
+    tight-full (of_epoch epoch (grants_spelled (drop 1 records))) (t.tight epoch) name h.1.lacks.0 h.1.lacks.1
+
+pub exact : {T : Type 0} (P : T → Type 0) (most : ℕ) (records : List Record) (result : Result T Flaw)
+    → MatchResult result P (IsFlaw most records) → IfErr result (λ flaw. IsTightList most records → IsOutside flaw)
+exact P most records (Ok x) h = tt
+exact P most records (Err flaw) h = λ t. tight-flaw most records flaw h t

@@ -1,0 +1,5 @@
+pub mod CallerLemmas
+pub mod Common
+pub mod GrantLemmas
+pub mod ReadingLemmas
+pub mod WritingLemmas

@@ -1,0 +1,13 @@
+-- Lemmas on what is read.
+pub mod Ahead
+pub mod BatchRecords
+pub mod Digits
+pub mod FirstFaults
+pub mod GatheredEpochs
+pub mod RecordFields
+pub mod RecordLists
+pub mod Results
+pub mod ScheduleRecords
+pub mod ServableEpochs
+pub mod Stretches
+pub mod Told

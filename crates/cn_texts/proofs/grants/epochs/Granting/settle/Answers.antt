@@ -1,0 +1,66 @@
+use Rattle.cn_texts.proofs.Common.{◌∙◌, ◌≡◌, ℕ, List, None, Some, ap, arith, inl, inr, length, map, refl}
+use Rattle.std.proofs.lemmas.List.{with_items_is}
+use Rattle.std.proofs.lemmas.List.Sorted.{length_permutation}
+use Rattle.cn_texts.specs.Grants.Occurrences.{has_number, numbers_of}
+use Rattle.cn_texts.specs.declared.grants.occurrences.Occurrence.{Occurrence}
+use Rattle.cn_texts.specs.declared.grants.record.Granted.{Granted}
+use Rattle.cn_texts.proofs.GrantLemmas.CheckedGrants.{all-fresh, client-twice, name-twice, named}
+use Rattle.cn_texts.proofs.GrantLemmas.Repeats.{numbers-occurrences, same-numbers}
+use Rattle.cn_texts.proofs.grants.epochs.Granting.settle.Goals as goal
+
+pub returns-in-None-None-clause-fresh : goal.returns-in-None-None-clause-fresh
+returns-in-None-None-clause-fresh c = λ earlier latest held.
+    all-fresh c.args.self.now earlier latest held
+    (rw c.in-None-None.is-0 at (c.first_repeat-client.ensures.first _ (c.as_mut_slice.ensures.value ∙ held.clients)))
+    (rw c.in-None-None.is-1 at (c.first_repeat-name.ensures.first _ (c.as_mut_slice-2.ensures.value ∙ held.names)))
+
+pub returns-in-None-None-clause-names : goal.returns-in-None-None-clause-names
+returns-in-None-None-clause-names c = λ earlier latest held.
+    let old = c.as_mut_slice-2.ensures.value ∙ held.names in
+    let names : List ℕ = map (λ (x : Granted). x.name) latest in
+    let as_many : length c.first_repeat-name.new.occurrences ≡ c.args.self.now.names.len =
+    length_permutation _ _ c.first_repeat-name.ensures.order ∙ c.as_mut_slice-2.ensures.len in
+    rw (with_items_is c.args.self.now.names c.first_repeat-name.new.occurrences as_many) (
+      c.first_repeat-name.ensures.rising names old c.in-None-None.is-1,
+      λ n. same-numbers c.as_mut_slice-2.result.now c.first_repeat-name.new.occurrences c.first_repeat-name.ensures.order n
+          ∙ ap (λ (l : List Occurrence). has_number (numbers_of l) n) old
+          ∙ ap (λ (l : List ℕ). has_number l n) (numbers-occurrences 0 names) ∙ named latest n,
+    )
+
+pub returns-in-None-Some-clause-twice : goal.returns-in-None-Some-clause-twice
+returns-in-None-Some-clause-twice c = λ earlier latest held.
+    rw c.from.ensures (name-twice c.args.self.now earlier latest held c.in-None-Some.name None
+    (rw c.in-None-Some.is-1 at (c.first_repeat-name.ensures.first _ (c.as_mut_slice-2.ensures.value ∙ held.names)))
+    (rw c.in-None-Some.is-0 at (c.first_repeat-client.ensures.first _ (c.as_mut_slice.ensures.value ∙ held.clients))) tt)
+
+pub returns-in-None-Some-clause-own : goal.returns-in-None-Some-clause-own
+returns-in-None-Some-clause-own c = (_, inr refl)
+
+pub returns-in-Some-None-clause-twice : goal.returns-in-Some-None-clause-twice
+returns-in-Some-None-clause-twice c = λ earlier latest held.
+    rw c.from-in-Some-None.ensures (client-twice c.args.self.now earlier latest held c.in-Some-None.client None
+    (rw c.in-Some-None.is-0 at (c.first_repeat-client.ensures.first _ (c.as_mut_slice.ensures.value ∙ held.clients)))
+    (rw c.in-Some-None.is-1 at (c.first_repeat-name.ensures.first _ (c.as_mut_slice-2.ensures.value ∙ held.names))) tt)
+
+pub returns-in-Some-None-clause-own : goal.returns-in-Some-None-clause-own
+returns-in-Some-None-clause-own c = (_, inl refl)
+
+pub returns-in-Some-Some-clause-twice : goal.returns-in-Some-Some-clause-twice
+returns-in-Some-Some-clause-twice c = λ earlier latest held.
+    rw c.from-in-Some-Some.ensures (name-twice c.args.self.now earlier latest held c.in-Some-Some.name (Some c.in-Some-Some.client)
+    (rw c.in-Some-Some.is-1 at (c.first_repeat-name.ensures.first _ (c.as_mut_slice-2.ensures.value ∙ held.names)))
+    (rw c.in-Some-Some.is-0 at (c.first_repeat-client.ensures.first _ (c.as_mut_slice.ensures.value ∙ held.clients)))
+    (omega (arith, c.if-name-client.true)))
+
+pub returns-in-Some-Some-clause-own : goal.returns-in-Some-Some-clause-own
+returns-in-Some-Some-clause-own c = (_, inr refl)
+
+pub returns-in-Some-Some-2-clause-twice : goal.returns-in-Some-Some-2-clause-twice
+returns-in-Some-Some-2-clause-twice c = λ earlier latest held.
+    rw c.from-in-Some-Some-2.ensures (client-twice c.args.self.now earlier latest held c.in-Some-Some.client (Some c.in-Some-Some.name)
+    (rw c.in-Some-Some.is-0 at (c.first_repeat-client.ensures.first _ (c.as_mut_slice.ensures.value ∙ held.clients)))
+    (rw c.in-Some-Some.is-1 at (c.first_repeat-name.ensures.first _ (c.as_mut_slice-2.ensures.value ∙ held.names)))
+    (omega (arith, c.if-name-client.false)))
+
+pub returns-in-Some-Some-2-clause-own : goal.returns-in-Some-Some-2-clause-own
+returns-in-Some-Some-2-clause-own c = (_, inl refl)

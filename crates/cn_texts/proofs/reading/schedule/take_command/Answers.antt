@@ -1,0 +1,35 @@
+use Rattle.cn_texts.proofs.Common.{◌≡◌, ◌∙◌, ap, sym, Err, true, refl, inl, nat_lt, lt-ltb, MOST_RECORDS}
+use Rattle.std.proofs.lemmas.Result.{err_from_is_err_and}
+use Rattle.csv.specs.Records.{fields_of}
+use Rattle.cn_texts.specs.Reading.Schedule.{cause_of_fault}
+use Rattle.cn_texts.proofs.ReadingLemmas.Told.{command-other, told-other}
+use Rattle.cn_texts.proofs.reading.schedule.take_command.Goals as goal
+
+pub returns-then-not-branch-clause-found : goal.returns-then-not-branch-clause-found
+returns-then-not-branch-clause-found g c =
+    λ text before read. rw c.if-not-branch.true at (c.in_ok-next_record.ensures.reads text before read)
+
+pub returns-in_err-command-clause-refused : goal.returns-in_err-command-clause-refused
+returns-in_err-command-clause-refused g c =
+    let reported = err_from_is_err_and c.from_residual-in_err-command.result c.from_residual-in_err-command.ensures.1 in
+    rw (reported.1, reported.2) (λ text before read.
+    inl (
+      fields_of c.next_record.new.fields,
+      rw c.if-not-branch.false at (c.in_ok-next_record.ensures.reads text before read),
+      rw (← c.command_of.ensures, c.in_err-command.was) refl,
+    ))
+
+pub returns-then-at-gt-MOST_RECORDS-clause-refused : goal.returns-then-at-gt-MOST_RECORDS-clause-refused
+returns-then-at-gt-MOST_RECORDS-clause-refused g c = λ text before read.
+    let full : nat_lt MOST_RECORDS c.args.at ≡ true = lt-ltb MOST_RECORDS c.args.at c.if-at-gt-MOST_RECORDS.true in
+    inl (
+      fields_of c.next_record.new.fields,
+      rw c.if-not-branch.false at (c.in_ok-next_record.ensures.reads text before read),
+      rw (← c.in_ok-command.ensures, full) refl,
+    )
+
+pub returns-in_err-command-clause-told : goal.returns-in_err-command-clause-told
+returns-in_err-command-clause-told g c =
+    let reported = err_from_is_err_and c.from_residual-in_err-command.result c.from_residual-in_err-command.ensures.1 in
+    rw (reported.1, reported.2) (told-other cause_of_fault _ c.in_ok-next_record.ensures.plain.going
+    (λ is. command-other (fields_of c.next_record.new.fields) (sym c.command_of.ensures ∙ c.in_err-command.was ∙ ap Err is)))
