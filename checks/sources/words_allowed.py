@@ -39,7 +39,7 @@ MOST = {
         "Join": 3, "Split": 3, "table_of": 3, "Counters::new": 1, ".shared": 10, ".fetch_add": 4, ".load": 2,
         ".split_seat": 3, ".join_seat": 2,
         # Seats, which lanes have, and what is done by one.
-        "Seat": ANY, ".seat": ANY, "::lay": 1, ".grant_one": 2, ".enter_all": 1, "make_way": ANY,
+        "Seat": ANY, ".seat": ANY, "::lay": 1, ".grant_one": 1, ".enter_all": 1, "make_way": ANY, ".let_walk": 2,
         # Lanes that are split off, and floors that open.
         ".split": 1, ".split_off": 1, "::open_words": 2,
         # The network, which several may own.
@@ -48,8 +48,8 @@ MOST = {
         "std::snapshot::Snapshot": ANY, "Snapshot": 27, "Snapshot::of": 9, "of_one": 2,
     },
     # Takers, which have seats, and what is done by a seat: the clients of a list, and names that are taken.
-    "cn_lists": {"Seat": ANY, ".seat": ANY, "::lay": 1, ".grant": 1, ".enter_list": 1, ".let_by": 1, ".entered_by": 1,
-                 ".split_seat": 1, "make_way": ANY, "open_for_takers": 2},
+    "cn_lists": {"Seat": ANY, ".seat": ANY, "::lay": 1, ".grant_one": 1, ".enter_list": 1, ".let_by": 1,
+                 ".entered_by": 1, ".split_seat": 1, ".let_walk": 1, "open_for_takers": 2},
     "cn_walk": {
         # Threads with small stacks, and that each returns what its call does.
         "std::thread": ANY, "std::thread::Promise": ANY, "std::thread::scope": 1, "std::thread::scope_env": 1,

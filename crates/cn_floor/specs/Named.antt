@@ -1,5 +1,5 @@
 -- A client that walked through a network by itself, and its name.
-use Rattle.std.specs.Prelude.{◌≡◌, ℕ, ◌+◌, ◌-◌, ◌<◌, ◌++◌, ◌∷◌, [], List}
+use Rattle.std.specs.Prelude.{◌≡◌, ℕ, ◌+◌, ◌-◌, ◌<◌, ◌++◌, ◌∷◌, [], List, length, replicate}
 use Rattle.cn_tables.specs.declared.end.End.TheVariants.{Exit}
 use Rattle.cn_tables.specs.Table.{end_of}
 use Rattle.cn_ledger.specs.Events.{Enters}
@@ -43,6 +43,20 @@ pub record IsGranted (start : Start) (client entry : ℕ) (grant : Grant) (v w :
   -- the name is below what the floor may let in, and the view stands in some state
   pub low : grant.name < start.quota
   pub in_state : StoodInState start w
+
+-- so many clients came in and left: what that made of a view, of whatever clients
+pub record AllLeft (many : ℕ) (v w : View) : Type 0 where
+  pub begun : w.start ≡ v.start
+  pub loads : w.loads ≡ v.loads
+  pub gone : w.tokens ≡ replicate (length v.tokens) []
+  pub quota : w.quota + many ≡ v.quota
+  pub grants : length w.grants ≡ length v.grants + many
+
+-- what a walk of so many clients made of a lane, beside its view
+pub record LetsWalk (old new : LaneValue) (many : ℕ) : Type 0 where
+  pub home : new.home ≡ old.home
+  pub yard : new.yard ≡ old.yard
+  pub room : new.room ≡ old.room - many
 
 -- a lane named one client more
 pub record IsNamed (old new : LaneValue) (client entry name : ℕ) : Type 0 where

@@ -19,6 +19,7 @@ mod shared_floor;
 mod sharing;
 mod stepping;
 mod sweeping;
+mod walking;
 mod words;
 
 ghost use Rattle.std.specs.Prelude.{◌≡◌};
@@ -28,7 +29,7 @@ pub use closed_floor::ClosedFloor;
 pub use closing::CloseFault;
 use cn_tables::Counting;
 use counters::Counters;
-pub use lane::{Lane, make_way};
+pub use lane::Lane;
 pub use leftovers::Leftovers;
 pub use naming::walk_one;
 use opening::{yard_for, zeros};
@@ -37,6 +38,7 @@ pub use receipts::Receipts;
 pub use shared_floor::SharedFloor;
 use std::alloc::Global;
 use std::marker::Model;
+pub use walking::Walk;
 pub use words::Words;
 
 /// A counting network on atomic words, which lanes share: one word for each entry, each balancer and each exit. A

@@ -27,7 +27,7 @@ impl Gate for OpenGate {
 }
 
 /// What is asked before each of these steps of one worker.
-pub(crate) trait Pause {
+pub trait Pause {
     /// A step of this kind comes.
     fn before(&self, moment: Moment);
 }
@@ -48,7 +48,7 @@ impl<'r, G: Gate, R: Wait> Pause for Asked<'r, G, R> {
 
 /// Nobody is asked.
 #[derive(Drop)]
-pub(crate) struct NoPause;
+pub struct NoPause;
 
 impl Pause for NoPause {
     fn before(&self, _moment: Moment) {}

@@ -10,8 +10,8 @@ mod view;
 pub use atomic_table::Seat;
 pub use fault::{JoinFault, LaneFault, OpenFault, SplitFault};
 pub use floor::{
-    CloseFault, ClosedFloor, Floor, Lane, Leftovers, Quiet, Receipts, SharedFloor, Words, make_way,
+    CloseFault, ClosedFloor, Floor, Lane, Leftovers, Quiet, Receipts, SharedFloor, Walk, Words,
     walk_one,
 };
-pub use gate::{Gate, Moment, OpenGate};
+pub use gate::{Gate, Moment, NoPause, OpenGate, Pause};
 pub use view::{Grant, Opening, Passage, Start, Sweep, View};

@@ -31,17 +31,18 @@ times-by entry id (x ∷ ids) =
 pub together : (a b : LaneValue) (ids : List ℕ) (entry : ℕ) → tokens_in a.yard.lists ≡ 0 → length ids ≤ a.room → AreNamed a b ids entry
     → WalksAll a b (by_entry entry ids)
 together a b ids entry out room is =
-    let (most, grew, many, often) = is.grants in
+    let all = is.walked in
+    let (most, grew, many, often) = all.grants in
     let long : length (by_entry entry ids) ≡ length ids = length-map ids (λ (id : ℕ). record { id = id; entry = entry }) in
     record {
       home = is.home;
       out = ap (λ (y : Yard). tokens_in y.lists) is.yard ∙ out;
-      quota = omega (arith, is.quota, long);
+      quota = omega (arith, all.quota, long);
       room = omega (arith, is.room, long);
       spare = omega (arith, ap (λ (y : Yard). y.spare) is.yard);
-      entries = is.entries ∙ ap (λ (es : List ℕ). a.view.entries ++ es) (sym (entries_by entry ids));
-      came = is.came;
-      seen = is.seen;
+      entries = all.entries ∙ ap (λ (es : List ℕ). a.view.entries ++ es) (sym (entries_by entry ids));
+      came = all.came;
+      seen = all.seen;
       grants = (most, grew, record { as_many = many ∙ sym long; as_often = λ id. often id ∙ sym (times-by entry id ids) });
     }
 

@@ -84,23 +84,25 @@ pub record WalkTogether (start : Start) (clients : List ℕ) (entry : ℕ) (v w 
   pub swept : SweptBy start wires (after_enter_all clients entry v) w
   pub steps : w.steps ≡ v.steps + 1 + length wires
 
--- the clients of a list came in by an entry and left: a grant more for each of them, and the wires are as before
-pub record AreNamed (old new : LaneValue) (clients : List ℕ) (entry : ℕ) : Type 0 where
-  pub home : new.home ≡ old.home
-  pub walked : WalkTogether old.home.start clients entry old.view new.view
-  pub quota : new.view.quota + length clients ≡ old.view.quota
-  pub entries : new.view.entries ≡ old.view.entries ++ replicate (length clients) entry
-  pub came : new.view.came ≡ old.view.came ++ by_one_entry entry clients
-  pub seen : new.view.seen ≡ old.view.seen
-  pub grants : (more : List Grant) × (new.view.grants ≡ old.view.grants ++ more) × (length more ≡ length clients)
+-- the clients of a list came in by an entry and left: a grant more for each of them
+pub record HaveWalked (start : Start) (clients : List ℕ) (entry : ℕ) (v w : View) : Type 0 where
+  pub together : WalkTogether start clients entry v w
+  pub quota : w.quota + length clients ≡ v.quota
+  pub entries : w.entries ≡ v.entries ++ replicate (length clients) entry
+  pub came : w.came ≡ v.came ++ by_one_entry entry clients
+  pub seen : w.seen ≡ v.seen
+  pub grants : (more : List Grant) × (w.grants ≡ v.grants ++ more) × (length more ≡ length clients)
       × ((client : ℕ) → count_by (λ g. g.client == client) more ≡ times client clients)
   -- by as many atomic steps as one client takes, at least
-  pub enough_steps : 0 < length clients
-      → old.view.steps + (old.home.start.network.depth + 2) ≤ new.view.steps
+  pub enough_steps : 0 < length clients → v.steps + (start.network.depth + 2) ≤ w.steps
   -- and at most by one, and for each of them as many as the network is deep, and one
-  pub few_steps : new.view.steps
-      ≤ old.view.steps + 1 + (old.home.start.network.depth + 1) * length clients
-  -- the lane stands in some state: so the rule holds of its names
-  pub in_state : 0 < length clients → StoodInState old.home.start new.view
+  pub few_steps : w.steps ≤ v.steps + 1 + (start.network.depth + 1) * length clients
+  -- the view stands in some state: so the rule holds of its names
+  pub in_state : 0 < length clients → StoodInState start w
+
+-- they are clients of a lane, whose wires are as before
+pub record AreNamed (old new : LaneValue) (clients : List ℕ) (entry : ℕ) : Type 0 where
+  pub home : new.home ≡ old.home
+  pub walked : HaveWalked old.home.start clients entry old.view new.view
   pub yard : new.yard ≡ old.yard
   pub room : new.room ≡ old.room - length clients

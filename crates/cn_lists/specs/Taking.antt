@@ -1,12 +1,11 @@
 -- A taker as contracts see it, and what calls make of one.
-use Rattle.std.specs.Prelude.{◌≡◌, ℕ, ◌+◌, ◌*◌, ◌<◌, ◌≤◌, ◌++◌, List, get_or, length, map, replicate}
+use Rattle.std.specs.Prelude.{◌≡◌, ℕ, ◌+◌, ◌<◌, ◌++◌, List, get_or, length, map}
 use Rattle.cn_lists.specs.declared.taking.Names.{Names}
 use Rattle.cn_floor.specs.declared.view.Grant.{Grant}
 use Rattle.cn_floor.specs.declared.view.View.{View}
 use Rattle.cn_floor.specs.Lane.{FloorValue}
-use Rattle.cn_lists.specs.Listed.{WalkTogether, by_one_entry}
+use Rattle.cn_lists.specs.Listed.{HaveWalked}
 use Rattle.cn_floor.specs.Named.{IsGranted}
-use Rattle.cn_floor.specs.Steps.{StoodInState}
 use Rattle.cn_floor.specs.Views.{empty_view}
 
 -- a taker: its floor, and what it has done
@@ -28,20 +27,8 @@ pub record IsTaken (old new : TakerValue) (entry name : ℕ) : Type 0 where
 -- a taker took names together, for as many clients as these, who came in by an entry
 pub record AreTaken (old new : TakerValue) (clients : List ℕ) (entry : ℕ) (names : List ℕ) : Type 0 where
   pub home : new.home ≡ old.home
-  pub walked : WalkTogether old.home.start clients entry old.view new.view
-  pub quota : new.view.quota + length clients ≡ old.view.quota
-  pub entries : new.view.entries ≡ old.view.entries ++ replicate (length clients) entry
-  pub came : new.view.came ≡ old.view.came ++ by_one_entry entry clients
-  pub seen : new.view.seen ≡ old.view.seen
-  pub grants : (more : List Grant) × (new.view.grants ≡ old.view.grants ++ more) × (names ≡ map (λ g. g.name) more)
-  -- by as many atomic steps as one client takes, at least
-  pub enough_steps : 0 < length clients
-      → old.view.steps + (old.home.start.network.depth + 2) ≤ new.view.steps
-  -- and at most by one, and for each of them as many as the network is deep, and one
-  pub few_steps : new.view.steps
-      ≤ old.view.steps + 1 + (old.home.start.network.depth + 1) * length clients
-  -- the taker stands in some state: so the rule holds of its names
-  pub in_state : 0 < length clients → StoodInState old.home.start new.view
+  pub walked : HaveWalked old.home.start clients entry old.view new.view
+  pub named : (more : List Grant) × (new.view.grants ≡ old.view.grants ++ more) × (names ≡ map (λ g. g.name) more)
 
 -- the names of all grants but the first ones are written
 pub record AreWritten (before now : List Grant) (notes : Names) : Type 0 where

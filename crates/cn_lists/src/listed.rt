@@ -1,15 +1,14 @@
 //! The clients of a list, named by one call: all who stand on a wire pass its end together, and where they stand is in
 //! locals.
 
-ghost use Rattle.std.specs.Prelude.{◌≡◌, ℕ, ◌-◌, ◌/◌, ◌<◌, ◌≤◌, ◌↔◌, [], List, length, vec_capacity, IsErrOf, OnErr, OnOk};
+ghost use Rattle.std.specs.Prelude.{◌≡◌, ℕ, ◌-◌, ◌/◌, ◌<◌, ◌≤◌, ◌↔◌, List, length, vec_capacity, IsErrOf, OnErr, OnOk};
 ghost use Rattle.cn_yard.specs.Deals.{every_second};
-ghost use Rattle.cn_yard.specs.Lists.{on, tokens_in};
-ghost use Rattle.cn_floor.specs.EntersAll.{ComeTogether};
-ghost use Rattle.cn_lists.specs.Listed.{AreNamed, CameIn, ListFrame, Stand, frame_of};
+ghost use Rattle.cn_yard.specs.Lists.{tokens_in};
+ghost use Rattle.cn_lists.specs.Listed.{AreNamed, HaveWalked, ListFrame, Stand, frame_of};
 
-use crate::passing::{Party, pass_all};
+use crate::passing::{Party, walk_all};
 use cn_exit::name_of;
-use cn_floor::{Floor, Grant, Lane, LaneFault, Seat, View, make_way};
+use cn_floor::{Floor, Grant, Lane, LaneFault, Seat, View, Walk};
 
 /// Where those of a list's clients who stand on one wire stand in the list, first to last: at every `stride`-th place
 /// from `first` on.
@@ -34,9 +33,15 @@ impl<'g> Party<Granting<'g>> for Places {
 
     ghost room = { λ notes. vec_capacity notes.grants.now - length notes.grants.now.items };
 
+    ghost clients_of = { λ notes. notes.clients.now };
+
     ghost Are = { Stand };
 
     ghost Noted = { λ before now notes. notes.grants.now.items ≡ now };
+
+    fn clients<'n>(self, notes: &'n Granting<'g>) -> &'n [u64] {
+        notes.clients
+    }
 
     fn halves(self, count: usize) -> (Self, Self)
         requires some { 2 ≤ count }
@@ -74,22 +79,35 @@ impl<'g> Party<Granting<'g>> for Places {
     }
 }
 
-/// Lets the clients of a list in by one entry, in one atomic step, by a view with nobody inside. Each one's token
-/// has the number of its place in the list.
-pub(crate) fn come_in(floor: &Floor<'_>, seat: &mut Seat<(), View>, clients: &[u64], entry: u32)
-    requires own { (seat.old.table_id ≡ floor.now.table)
-        × (seat.old.me.0.start ≡ floor.now.start) }
-    requires slots { (seat.old.me.1 ≡ []) × (seat.old.me.0.loads ≡ []) }
-    requires wires { length seat.old.me.0.tokens ≡ length floor.now.start.network.table.ends }
-    requires out { (wire : ℕ) → on seat.old.me.0.tokens wire ≡ [] }
-    requires entry { entry < floor.now.start.network.table.entries }
-    requires quota { length clients.now ≤ seat.old.me.0.quota }
-    ensures seat { (seat.new.table_id ≡ seat.old.table_id) × (seat.new.me.1 ≡ []) }
-    ensures came { CameIn seat.old.me.0 seat.new.me.0 clients.now entry (length clients.now) }
-    ensures step { ComeTogether floor.now.start clients.now entry seat.old.me.0 seat.new.me.0 }
-{
-    floor.start_laws();
-    floor.enter_list(seat, clients, entry);
+/// The clients of a list, who walk together.
+#[derive(Drop)]
+struct Together<'c> {
+    clients: &'c [u64],
+}
+
+impl<'c> Walk<()> for Together<'c> {
+    ghost many = { λ all. length all.clients.now };
+
+    ghost Walked = { λ start all entry _ v w. HaveWalked start all.clients.now entry v w };
+
+    fn count(&self) -> u64 {
+        self.clients.len() as u64
+    }
+
+    fn walk(
+        &self,
+        floor: &Floor<'_>,
+        seat: &mut Seat<(), View>,
+        grants: &mut Vec<Grant>,
+        entry: u32,
+    ) {
+        let all = Places {
+            first: 0,
+            stride: 1,
+        };
+        let clients = self.clients;
+        walk_all(floor, seat, &mut Granting { grants, clients }, all, entry);
+    }
 }
 
 /// Lets the clients of a list in by one entry and walks them out, all who stand on a wire by one atomic step: a
@@ -117,38 +135,5 @@ pub fn name_all(
         × (lane.old.view.quota < length clients.now)) }
     ensures room { length clients.now ≤ lane.old.room → ¬ (IsErrOf result LaneFault.Memory) }
 {
-    floor.start_laws();
-    if entry >= u64::from(floor.network().entries()) {
-        return Err(LaneFault::NoSuchEntry);
-    }
-    let count = clients.len() as u64;
-    if lane.quota() < count {
-        return Err(LaneFault::QuotaSpent);
-    }
-    lane.lane_laws();
-    let Ok(()) = make_way(&mut lane.grants, count, &lane.yard, lane.room) else {
-        return Err(LaneFault::Memory);
-    };
-    let entry = entry as u32;
-    come_in(floor, &mut lane.seat, clients, entry);
-    let all = Places {
-        first: 0,
-        stride: 1,
-    };
-    let mut notes = Granting {
-        grants: &mut lane.grants,
-        clients,
-    };
-    pass_all(
-        floor,
-        floor.network(),
-        &mut lane.seat,
-        &mut notes,
-        all,
-        clients.len(),
-        entry,
-    );
-    lane.quota -= count;
-    lane.room = lane.room.saturating_sub(count);
-    Ok(())
+    floor.let_walk(lane, &Together { clients }, entry)
 }

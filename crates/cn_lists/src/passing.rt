@@ -4,7 +4,9 @@ ghost use Rattle.std.specs.Prelude.{◌≡◌, ℕ, ◌+◌, ◌-◌, ◌/◌, �
 ghost use Rattle.cn_spec.specs.Step as step;
 ghost use Rattle.cn_yard.specs.Deals.{every_second};
 ghost use Rattle.cn_yard.specs.Lists.{on, times_in};
-ghost use Rattle.cn_lists.specs.Listed.{HaveLeft};
+ghost use Rattle.cn_lists.specs.Listed.{CameIn, HaveLeft, HaveWalked, placed};
+ghost use Rattle.cn_floor.specs.EntersAll.{ComeTogether};
+ghost use Rattle.cn_floor.specs.Named.{AllLeft};
 ghost use Rattle.cn_floor.specs.Sweeps.{SweptBy, grants_out};
 ghost use Rattle.cn_floor.specs.declared.view.Grant.{Grant};
 
@@ -22,11 +24,18 @@ pub(crate) trait Party<N>: Copy {
     /// How many more may be noted.
     ghost room: { N → ℕ };
 
+    /// The clients who may be noted.
+    ghost clients_of: { N → List ℕ };
+
     /// So many of them may be these.
     ghost Are: { Frame → Self → ℕ → List (ℕ × ℕ) → Type 0 };
 
     /// Of these grants all after the first ones have been noted.
     ghost Noted: { List Grant → List Grant → N → Type 0 };
+
+    /// The clients who may be noted.
+    fn clients<'n>(self, notes: &'n N) -> &'n [u64]
+        ensures { result.now ≡ clients_of notes.now };
 
     /// Every second of them, from the first on, and the others.
     fn halves(self, count: usize) -> (Self, Self)
@@ -118,4 +127,62 @@ pub(crate) fn pass_all<N, P: Party<N>>(
         }
         End::Exit(exit) => party.leave(notes, count, exit, number, network.width(), floor.base()),
     }
+}
+
+/// Lets the clients who may be noted in by one entry, in one atomic step, by a view with nobody inside: how many they
+/// are. Each one's token has the number of its place in the list.
+fn come_in<N, P: Party<N>>(
+    floor: &Floor<'_>,
+    seat: &mut Seat<(), View>,
+    notes: &N,
+    party: P,
+    entry: u32,
+) -> usize
+    requires own { (seat.old.table_id ≡ floor.now.table)
+        × (seat.old.me.0.start ≡ floor.now.start) }
+    requires slots { (seat.old.me.1 ≡ []) × (seat.old.me.0.loads ≡ []) }
+    requires wires { length seat.old.me.0.tokens ≡ length floor.now.start.network.table.ends }
+    requires out { (wire : ℕ) → on seat.old.me.0.tokens wire ≡ [] }
+    requires entry { entry < floor.now.start.network.table.entries }
+    requires quota { length (P.clients_of notes.now) ≤ seat.old.me.0.quota }
+    ensures seat { (seat.new.table_id ≡ seat.old.table_id) × (seat.new.me.1 ≡ []) }
+    ensures count { result ≡ length (P.clients_of notes.now) }
+    ensures came { CameIn seat.old.me.0 seat.new.me.0 (P.clients_of notes.now) entry
+        (length (P.clients_of notes.now)) }
+    ensures step { ComeTogether floor.now.start (P.clients_of notes.now) entry seat.old.me.0 seat.new.me.0 }
+{
+    floor.start_laws();
+    let clients = party.clients(notes);
+    floor.enter_list(seat, clients, entry);
+    clients.len()
+}
+
+/// Lets the clients who may be noted in by one entry and walks them out, by a view with nobody inside.
+pub(crate) fn walk_all<N, P: Party<N>>(
+    floor: &Floor<'_>,
+    seat: &mut Seat<(), View>,
+    notes: &mut N,
+    party: P,
+    entry: u32,
+)
+    requires own { (seat.old.table_id ≡ floor.now.table)
+        × (seat.old.me.0.start ≡ floor.now.start) }
+    requires slots { (seat.old.me.1 ≡ []) × (seat.old.me.0.loads ≡ []) }
+    requires wires { length seat.old.me.0.tokens ≡ length floor.now.start.network.table.ends }
+    requires out { (wire : ℕ) → on seat.old.me.0.tokens wire ≡ [] }
+    requires entry { entry < floor.now.start.network.table.entries }
+    requires quota { length (P.clients_of notes.old) ≤ seat.old.me.0.quota }
+    requires party { P.Are (P.kept notes.old) party (length (P.clients_of notes.old))
+        (placed (P.clients_of notes.old) 0 1 (length (P.clients_of notes.old))) }
+    requires room { length (P.clients_of notes.old) ≤ P.room notes.old }
+    ensures seat { (seat.new.table_id ≡ seat.old.table_id) × (seat.new.me.1 ≡ []) }
+    ensures left { AllLeft (length (P.clients_of notes.old)) seat.old.me.0 seat.new.me.0 }
+    ensures walked { HaveWalked floor.now.start (P.clients_of notes.old) entry seat.old.me.0 seat.new.me.0 }
+    ensures kept { P.kept notes.new ≡ P.kept notes.old }
+    ensures noted { (before : List Grant) → P.Noted before seat.old.me.0.grants notes.old
+        → P.Noted before seat.new.me.0.grants notes.new }
+{
+    let count = come_in(floor, seat, notes, party, entry);
+    let network = floor.network();
+    pass_all(floor, network, seat, notes, party, count, entry);
 }

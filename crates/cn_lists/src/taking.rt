@@ -5,11 +5,10 @@ ghost use Rattle.cn_floor.specs.Steps.{IsAnswer, StoodInState};
 ghost use Rattle.cn_lists.specs.Taking.{AreTaken, AreWritten, IsTaken, empty_taker};
 ghost use Rattle.cn_floor.specs.Views.{after_entered, after_look, after_split, split_off};
 
-use crate::listed::come_in;
-use crate::passing::{Party, pass_all};
+use crate::passing::{Party, walk_all};
 use crate::taker::Taker;
 use cn_exit::name_of;
-use cn_floor::{Floor, LaneFault, SplitFault};
+use cn_floor::{Floor, LaneFault, NoPause, SplitFault};
 
 /// Tokens of whatever clients.
 #[derive(Clone, Copy)]
@@ -30,9 +29,15 @@ impl<'n> Party<Names<'n>> for Anyone {
 
     ghost room = { λ notes. length notes.names.now - notes.at };
 
+    ghost clients_of = { λ notes. notes.names.now };
+
     ghost Are = { λ _ _ _ _. Unit {0} };
 
     ghost Noted = { AreWritten };
+
+    fn clients<'m>(self, notes: &'m Names<'n>) -> &'m [u64] {
+        &*notes.names
+    }
 
     fn halves(self, _count: usize) -> (Self, Self)
         ensures { (frame : ℕ) (tokens : List (ℕ × ℕ)) → Unit {0} → Unit {0} × Unit {0} }
@@ -80,7 +85,7 @@ pub fn take(floor: &Floor<'_>, taker: &mut Taker, entry: u64) -> Result<u64, Lan
     if taker.quota == 0 {
         return Err(LaneFault::QuotaSpent);
     }
-    let grant = floor.grant(network, &mut taker.seat, 0, entry as u32);
+    let grant = floor.grant_one(network, &mut taker.seat, 0, entry as u32, &NoPause);
     taker.quota -= 1;
     Ok(grant.name)
 }
@@ -155,19 +160,8 @@ pub fn take_many(
     if taker.quota < count {
         return Err(LaneFault::QuotaSpent);
     }
-    let entry = entry as u32;
-    come_in(floor, &mut taker.seat, names, entry);
-    let long = names.len();
     let mut notes = Names { names, at: 0 };
-    pass_all(
-        floor,
-        floor.network(),
-        &mut taker.seat,
-        &mut notes,
-        Anyone,
-        long,
-        entry,
-    );
+    walk_all(floor, &mut taker.seat, &mut notes, Anyone, entry as u32);
     taker.quota -= count;
     Ok(())
 }

@@ -1,16 +1,14 @@
 //! What is done by a seat, for lists and takers: they are in `cn_lists`, and no other crate calls this.
 
-ghost use Rattle.std.specs.Prelude.{◌≡◌, ◌<◌, ◌≤◌, [], ℕ, length, replicate};
+ghost use Rattle.std.specs.Prelude.{◌≡◌, ◌<◌, ◌≤◌, [], ℕ, length};
 ghost use Rattle.cn_yard.specs.Lists.{on, times_in};
 ghost use Rattle.cn_floor.specs.EntersAll.{ComeTogether};
-ghost use Rattle.cn_floor.specs.Named.{IsGranted};
 ghost use Rattle.cn_floor.specs.Steps.{IsAnswer, StoodInState};
 ghost use Rattle.cn_floor.specs.Sweeps.{GoTogether};
 ghost use Rattle.cn_floor.specs.Views.{after_entered, base};
 
 use super::Floor;
-use crate::gate::NoPause;
-use crate::view::{Grant, View};
+use crate::view::View;
 use atomic_table::Seat;
 use cn_tables::{Counting, End};
 use std::marker::Brand;
@@ -21,30 +19,6 @@ impl<'a> Floor<'a> {
         ensures { result ≡ base self.now.start }
     {
         self.base
-    }
-
-    /// Lets a client in by an entry and walks it out, by a view with nobody inside: its grant. It waits for nobody.
-    #[inline(always)]
-    pub fn grant(
-        &self,
-        network: &Counting,
-        seat: &mut Seat<(), View>,
-        client: u64,
-        entry: u32,
-    ) -> Grant
-        requires network { network.now ≡ self.now.start.network }
-        requires own { (seat.old.table_id ≡ self.now.table)
-            × (seat.old.me.0.start ≡ self.now.start) }
-        requires slots { (seat.old.me.1 ≡ []) × (seat.old.me.0.loads ≡ []) }
-        requires wires { length seat.old.me.0.tokens ≡ length self.now.start.network.table.ends }
-        requires out { (wire : ℕ) → on seat.old.me.0.tokens wire ≡ [] }
-        requires entry { entry < self.now.start.network.table.entries }
-        requires quota { 0 < seat.old.me.0.quota }
-        ensures seat { (seat.new.table_id ≡ seat.old.table_id) × (seat.new.me.1 ≡ []) }
-        ensures granted { IsGranted self.now.start client entry result seat.old.me.0 seat.new.me.0 }
-        ensures gone { seat.new.me.0.tokens ≡ replicate (length seat.old.me.0.tokens) [] }
-    {
-        self.grant_one(network, seat, client, entry, &NoPause)
     }
 
     /// Lets the clients of a list in by one entry, in one atomic step.

@@ -17,16 +17,13 @@ use std::marker::Model;
 ///
 /// It has room for grants, of which each client that comes in takes some for its own, and free records: a client inside
 /// has one of these, until it leaves. Only [`Lane::reserve`] and [`Lane::reserve_apart`] take memory.
-///
-/// Its fields are public for `cn_lists`, which names the clients of a list by them. Whoever changes one has to prove
-/// what each lane keeps.
 #[derive(Drop)]
 pub struct Lane {
-    pub seat: Seat<(), View>,
-    pub yard: Yard,
-    pub grants: Vec<Grant>,
-    pub quota: u64,
-    pub room: u64,
+    pub(super) seat: Seat<(), View>,
+    pub(super) yard: Yard,
+    pub(super) grants: Vec<Grant>,
+    pub(super) quota: u64,
+    pub(super) room: u64,
 }
 
 impl Model for Lane {
@@ -45,7 +42,7 @@ impl Model for Lane {
 /// # Errors
 /// `AllocError` if the room is less, and the list gets no memory.
 #[inline]
-pub fn make_way(
+pub(super) fn make_way(
     grants: &mut Vec<Grant>,
     more: u64,
     yard: &Yard,

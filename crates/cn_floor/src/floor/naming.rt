@@ -8,7 +8,8 @@ ghost use Rattle.cn_floor.specs.Alone.{IsAlone, OnlyPassed, PassesOn};
 ghost use Rattle.cn_floor.specs.Named.{IsGranted, IsNamed, WalksThrough};
 
 use super::Floor;
-use super::lane::{Lane, make_way};
+use super::lane::Lane;
+use super::walking::Walk;
 use crate::fault::LaneFault;
 use crate::gate::{Asked, Gate, Moment, NoPause, Pause};
 use crate::view::{Grant, View};
@@ -20,6 +21,38 @@ use cn_tables::{Counting, End};
 use cn_yard::Token;
 use std::marker::Brand;
 use std::sync::Wait;
+
+/// One client, with a pause before each step.
+#[derive(Drop)]
+struct One<'p, P: Pause> {
+    client: u64,
+    pause: &'p P,
+}
+
+/// It answers its grant.
+impl<'p, P: Pause> Walk<Grant> for One<'p, P> {
+    ghost many = { λ _. 1 };
+
+    ghost Walked = { λ start one entry grant v w. IsGranted start one.client entry grant v w };
+
+    #[inline(always)]
+    fn count(&self) -> u64 {
+        1
+    }
+
+    #[inline(always)]
+    fn walk(
+        &self,
+        floor: &Floor<'_>,
+        seat: &mut Seat<(), View>,
+        grants: &mut Vec<Grant>,
+        entry: u32,
+    ) -> Grant {
+        let grant = floor.grant_one(floor.network(), seat, self.client, entry, self.pause);
+        grants.push_reserved(grant);
+        grant
+    }
+}
 
 impl<'a> Floor<'a> {
     /// Lets a client in by an entry and walks it out, in one atomic step for the entry, for each balancer on its way
@@ -41,50 +74,15 @@ impl<'a> Floor<'a> {
             ↔ ((entry < self.now.start.network.table.entries) × (lane.old.view.quota ≡ 0)) }
         ensures room { 0 < lane.old.room → ¬ (IsErrOf result LaneFault.Memory) }
     {
-        self.name_by(lane, client, entry, &NoPause)
-    }
-
-    /// As [`Floor::name`], with a pause before each step.
-    #[inline(always)]
-    fn name_by<P: Pause>(
-        &self,
-        lane: &mut Lane,
-        client: u64,
-        entry: u64,
-        pause: &P,
-    ) -> Result<u64, LaneFault>
-        requires own { lane.old.home ≡ self.now }
-        requires out { tokens_in lane.old.yard.lists ≡ 0 }
-        ensures ok { IfOk result (λ name. IsNamed lane.old lane.new client entry name) }
-        ensures err { OnErr result (lane.new ≡ lane.old) }
-        ensures entry { IsErrOf result LaneFault.NoSuchEntry
-            ↔ (self.now.start.network.table.entries ≤ entry) }
-        ensures quota { IsErrOf result LaneFault.QuotaSpent
-            ↔ ((entry < self.now.start.network.table.entries) × (lane.old.view.quota ≡ 0)) }
-        ensures room { 0 < lane.old.room → ¬ (IsErrOf result LaneFault.Memory) }
-    {
-        self.start_laws();
-        let network = self.network();
-        if entry >= u64::from(network.entries()) {
-            return Err(LaneFault::NoSuchEntry);
-        }
-        if lane.quota() == 0 {
-            return Err(LaneFault::QuotaSpent);
-        }
-        let Ok(()) = make_way(&mut lane.grants, 1, &lane.yard, lane.room) else {
-            return Err(LaneFault::Memory);
-        };
-        let grant = self.grant_one(network, &mut lane.seat, client, entry as u32, pause);
-        lane.grants.push_reserved(grant);
-        lane.quota -= 1;
-        lane.room = lane.room.saturating_sub(1);
+        let pause = &NoPause;
+        let grant = self.let_walk(lane, &One { client, pause }, entry)?;
         Ok(grant.name)
     }
 
     /// Lets a client in by an entry and walks it out, by a view with nobody inside: its grant. It is made part of its
     /// callers, because an atomic add waits for each store before it, and a call makes some.
     #[inline(always)]
-    pub(super) fn grant_one<P: Pause>(
+    pub fn grant_one<P: Pause>(
         &self,
         network: &Counting,
         seat: &mut Seat<(), View>,
@@ -258,8 +256,12 @@ pub fn walk_one<'a, G: Gate, R: Wait>(
     ensures { IsNamed lane.old lane.new client.id client.entry result }
 {
     let asked = Asked { rt, gate, worker };
-    let Ok(name) = floor.name_by(lane, client.id, client.entry, &asked) else {
+    let one = One {
+        client: client.id,
+        pause: &asked,
+    };
+    let Ok(grant) = floor.let_walk(lane, &one, client.entry) else {
         unreachable!()
     };
-    name
+    grant.name
 }

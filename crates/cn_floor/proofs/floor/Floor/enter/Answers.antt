@@ -1,69 +1,10 @@
 use Rattle.std.proofs.Common.{◌≡◌, length, refl, arith, ap, ◌∙◌, sym, subst}
-use Rattle.cn_floor.proofs.Common.{FloorValue, IsAtomicStep, LaneValue, Network, Start, View, Yard, after_enter, lane_of, tokens_in}
+use Rattle.cn_floor.proofs.Common.{FloorValue, IsAtomicStep, LaneValue, Start, View, Yard, after_enter, tokens_in}
 use Rattle.cn_ledger.specs.Events.{Enters}
 use Rattle.cn_floor.specs.declared.floor.lane.Lane.TheInside.{Inside}
 use Rattle.cn_floor.specs.InsideLane.{IsLane}
 use Rattle.cn_floor.proofs.InLane.Lanes.{lane-in, lane-with-way}
 use Rattle.cn_floor.proofs.floor.Floor.enter.Goals as goal
-
-pub make_way-requires-clause-room : goal.make_way-requires-clause-room
-make_way-requires-clause-room c = c.lane.invariant.room
-
-pub make_way-requires-clause-more : goal.make_way-requires-clause-more
-make_way-requires-clause-more c = omega arith
-
-pub admit-requires : goal.admit-requires
-admit-requires c =
-    let network : c.lane.inside.seat.me.0.start.network ≡ c.network.result.now =
-    ap (λ (l : LaneValue). l.home.start.network) c.lane.view_is ∙ ap (λ (h : FloorValue). h.start.network) c.requires.own
-    ∙ sym c.network.ensures.value in
-    record {
-      wire = omega (
-        arith,
-        c.lane.invariant.wires,
-        ap (λ (n : Network). length n.table.ends) network,
-        c.entries.ensures.network.formed.wires,
-        c.entries.ensures.value,
-        c.if-entry-from.false,
-        c.from.ensures,
-      );
-      room = omega (arith, c.lane.invariant.few);
-    }
-
-pub enter-requires-clause-own : goal.enter-requires-clause-own
-enter-requires-clause-own c =
-    let home : (lane_of c.lane.inside).home ≡ c.self.inside.counters =
-    ap (λ (l : LaneValue). l.home) c.lane.view_is ∙ c.requires.own ∙ sym c.self.view_is in
-    (ap (λ (h : FloorValue). h.table) home, ap (λ (h : FloorValue). h.start) home)
-
-pub enter-requires-clause-slots : goal.enter-requires-clause-slots
-enter-requires-clause-slots c = (c.lane.invariant.no_slot, c.lane.invariant.idle)
-
-pub enter-requires-clause-entry : goal.enter-requires-clause-entry
-enter-requires-clause-entry c =
-    let network : c.lane.inside.seat.me.0.start.network ≡ c.network.result.now =
-    ap (λ (l : LaneValue). l.home.start.network) c.lane.view_is ∙ ap (λ (h : FloorValue). h.start.network) c.requires.own
-    ∙ sym c.network.ensures.value in
-    let same : c.self.inside.counters.start.network ≡ c.network.result.now =
-    ap (λ (h : FloorValue). h.start.network) c.self.view_is ∙ sym c.network.ensures.value in (
-      omega (arith, ap (λ (n : Network). n.table.entries) same, c.entries.ensures.value, c.if-entry-from.false, c.from.ensures),
-      omega (
-        arith,
-        ap length c.lane.invariant.tokens,
-        c.lane.invariant.wires,
-        ap (λ (n : Network). length n.table.ends) network,
-        c.entries.ensures.network.formed.wires,
-        c.entries.ensures.value,
-        c.if-entry-from.false,
-        c.from.ensures,
-      ),
-    )
-
-pub enter-requires-clause-quota : goal.enter-requires-clause-quota
-enter-requires-clause-quota c = omega (arith, c.lane.invariant.quota, c.if-lane-eq0)
-
-pub overflow_sub-lane : goal.overflow_sub-lane
-overflow_sub-lane c = omega (arith, c.if-lane-eq0)
 
 pub invariant_of-lane : goal.invariant_of-lane
 invariant_of-lane c =

@@ -1,32 +1,14 @@
 use Rattle.std.proofs.Common.{◌≡◌, length, refl, ap, sym, ◌∙◌, subst}
-use Rattle.cn_floor.proofs.Common.{FloorValue, IsAnswer, LaneValue, Start, View, lane_of}
+use Rattle.cn_floor.proofs.Common.{FloorValue, IsAnswer, LaneValue, Start, View}
 use Rattle.cn_floor.specs.Together.{HaveDistinctNames, StoodAsOne, first_after, second_after}
 use Rattle.cn_floor.specs.Rule.{FitsLanes}
 use Rattle.cn_floor.proofs.floor.Floor.look_at_both.Goals as goal
-
-pub look_at_both-other_seat-requires-clause-own : goal.look_at_both-other_seat-requires-clause-own
-look_at_both-other_seat-requires-clause-own c = (
-  ap (λ (l : LaneValue). l.home.table) c.lane.view_is ∙ ap (λ (h : FloorValue). h.table) (c.requires.own.0 ∙ sym c.self.view_is),
-  ap (λ (l : LaneValue). l.home.table) c.other.view_is ∙ ap (λ (h : FloorValue). h.table) (c.requires.own.1 ∙ sym c.self.view_is),
-)
 
 pub look_at_both-other_seat-requires-clause-start : goal.look_at_both-other_seat-requires-clause-start
 look_at_both-other_seat-requires-clause-start c = (
   ap (λ (l : LaneValue). l.home.start) c.lane.view_is ∙ ap (λ (h : FloorValue). h.start) (c.requires.own.0 ∙ sym c.self.view_is),
   ap (λ (l : LaneValue). l.home.start) c.other.view_is ∙ ap (λ (h : FloorValue). h.start) (c.requires.own.1 ∙ sym c.self.view_is),
 )
-
-pub look_at_both-other_seat-requires-clause-slots : goal.look_at_both-other_seat-requires-clause-slots
-look_at_both-other_seat-requires-clause-slots c =
-    (c.lane.invariant.no_slot, c.lane.invariant.idle, c.other.invariant.no_slot, c.other.invariant.idle)
-
-pub look_at_both-other_seat-requires-clause-wires : goal.look_at_both-other_seat-requires-clause-wires
-look_at_both-other_seat-requires-clause-wires c =
-    let home : (lane_of c.other.inside).home ≡ (lane_of c.lane.inside).home =
-    ap (λ (l : LaneValue). l.home) c.other.view_is ∙ c.requires.own.1 ∙ sym c.requires.own.0
-    ∙ ap (λ (l : LaneValue). l.home) (sym c.lane.view_is) in
-    sym (ap length c.other.invariant.tokens) ∙ c.other.invariant.wires ∙ ap (λ (h : FloorValue). length h.start.network.table.ends) home
-    ∙ sym c.lane.invariant.wires ∙ ap length c.lane.invariant.tokens
 
 pub look_at_both-other_seat-requires-clause-before : goal.look_at_both-other_seat-requires-clause-before
 look_at_both-other_seat-requires-clause-before c = c.self.invariant.base

@@ -1,5 +1,4 @@
-use Rattle.std.proofs.Common.{◌≡◌, ℕ, ◌+◌, ◌*◌, ◌-◌, ◌%◌, ◌<◌, List, Some, length, refl, arith, sym, ap, ◌∙◌, subst}
-use Rattle.std.specs.Option.{IsSome}
+use Rattle.std.proofs.Common.{◌≡◌, ℕ, ◌+◌, ◌*◌, ◌-◌, ◌%◌, ◌<◌, List, Some, refl, arith, sym, ap, ◌∙◌, subst}
 use Rattle.cn_floor.proofs.Common.{Balancer, End, Exit, FloorValue, IsLetBy, IsThere, LaneValue, Network, Stands, Start, View, after_step, base, end_of, lane_of, name_of, output_wire}
 use Rattle.cn_ledger.specs.declared.moved.Moved.TheVariants.{On, Out}
 use Rattle.cn_floor.proofs.InLane.Lanes.{lane-on, lane-out, steps-on}
@@ -130,28 +129,6 @@ returns-in-Balancer c =
           (subst (λ (s : Start). IsLetBy s v w client c.end-end.result n) (sym begun) c.step-number.ensures.went.1)),
     )
 
-pub step-number-requires-clause-own : goal.step-number-requires-clause-own
-step-number-requires-clause-own c =
-    let home : (lane_of c.lane.inside).home ≡ c.self.inside.counters =
-    ap (λ (l : LaneValue). l.home) c.lane.view_is ∙ c.requires.own ∙ sym c.self.view_is in
-    (ap (λ (h : FloorValue). h.table) home, ap (λ (h : FloorValue). h.start) home)
-
-pub step-number-requires-clause-wires : goal.step-number-requires-clause-wires
-step-number-requires-clause-wires c =
-    let home : (lane_of c.lane.inside).home ≡ c.self.inside.counters =
-    ap (λ (l : LaneValue). l.home) c.lane.view_is ∙ c.requires.own ∙ sym c.self.view_is in
-    sym (ap length c.lane.invariant.tokens) ∙ c.lane.invariant.wires ∙ ap (λ (h : FloorValue). length h.start.network.table.ends) home
-
-pub step-number-requires-clause-ends : goal.step-number-requires-clause-ends
-step-number-requires-clause-ends c =
-    ap (λ (n : Network). end_of n.table c.wire_of-wire.result)
-    (ap (λ (h : FloorValue). h.start.network) c.self.view_is ∙ sym c.network-network.ensures.value) ∙ c.end-end.ensures.at
-
-pub step-number-requires-clause-stands : goal.step-number-requires-clause-stands
-step-number-requires-clause-stands c =
-    subst (λ (n : Network). Stands n.table c.end-end.result)
-    (c.network-network.ensures.value ∙ ap (λ (h : FloorValue). h.start.network) (sym c.self.view_is)) c.end-end.ensures.there
-
 pub name_of-requires : goal.name_of-requires
 name_of-requires c =
     let start : Start = c.self.inside.counters.start in
@@ -170,23 +147,3 @@ name_of-requires c =
       name-small start i c.step-number.result c.self.invariant.began small stands (omega (arith, few)),
       ap (λ (k : ℕ). name_of k i c.step-number.result) width,
     )
-
-pub move_to-requires : goal.move_to-requires
-move_to-requires c =
-    let network : c.lane.inside.seat.me.0.start.network ≡ c.network-network.result.now =
-    ap (λ (l : LaneValue). l.home.start.network) c.lane.view_is ∙ ap (λ (h : FloorValue). h.start.network) c.requires.own
-    ∙ sym c.network-network.ensures.value in
-    let stands : Stands c.network-network.result.now.table (Balancer c.in-Balancer.balancer) =
-    subst (λ (e : End). Stands c.network-network.result.now.table e) c.in-Balancer.is c.end-end.ensures.there in
-    record {
-      live = subst (λ (l : LaneValue). IsSome (standing l.yard.lists c.args.token)) (sym c.lane.view_is) c.requires.live;
-      wire = omega (
-        arith,
-        c.lane.invariant.wires,
-        ap (λ (n : Network). length n.table.ends) network,
-        stands,
-        c.entries.ensures.value,
-        c.entries.ensures.network.formed.wires,
-        c.output_of.ensures,
-      );
-    }

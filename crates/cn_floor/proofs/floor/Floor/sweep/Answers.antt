@@ -7,20 +7,6 @@ use Rattle.cn_floor.specs.Rule.{FitsLanes}
 use Rattle.cn_floor.proofs.InLane.Named.{name-small}
 use Rattle.cn_floor.proofs.floor.Floor.sweep.Goals as goal
 
-pub deal-requires-clause-wires : goal.deal-requires-clause-wires
-deal-requires-clause-wires c =
-    let lists = c.lane.inside.yard.lists in
-    let inside : c.args.wire < length lists = some-inside lists c.args.wire (rw (← c.lane.view_is) at c.requires.some) in
-    let ends : length lists ≡ length c.network-network.result.now.table.ends =
-    c.lane.invariant.wires ∙ ap (λ (l : LaneValue). length l.home.start.network.table.ends) c.lane.view_is
-    ∙ ap (λ (h : FloorValue). length h.start.network.table.ends) c.requires.own
-    ∙ ap (λ (x : Network). length x.table.ends) (sym c.network-network.ensures.value) in
-    let stands : Stands c.network-network.result.now.table (Balancer c.in-Balancer.balancer) =
-    subst (λ (e : End). Stands c.network-network.result.now.table e) c.in-Balancer.is c.end-end.ensures.there in
-    let out : c.entries.result + 2 * c.in-Balancer.balancer + 1 < length lists =
-    omega (arith, ends, stands, c.entries.ensures.value, c.entries.ensures.network.formed.wires) in
-    (inside, omega (arith, out), out)
-
 pub deal-requires-clause-distinct : goal.deal-requires-clause-distinct
 deal-requires-clause-distinct c =
     let lists = c.lane.inside.yard.lists in
@@ -195,73 +181,7 @@ returns-in-Exit c =
           c.sweep-first.ensures.went.1)),
     )
 
-pub end-end-requires : goal.end-end-requires
-end-end-requires c =
-    let lists = c.lane.inside.yard.lists in
-    let inside : c.args.wire < length lists = some-inside lists c.args.wire (rw (← c.lane.view_is) at c.requires.some) in
-    let ends : length lists ≡ length c.args.self.now.start.network.table.ends =
-    c.lane.invariant.wires ∙ ap (λ (l : LaneValue). length l.home.start.network.table.ends) c.lane.view_is
-    ∙ ap (λ (h : FloorValue). length h.start.network.table.ends) c.requires.own in
-    omega (
-      arith,
-      inside,
-      ends,
-      c.network-network.ensures.network.formed.wires,
-      ap (λ (x : Network). x.table.entries) c.network-network.ensures.value,
-      ap (λ (x : Network). x.table.balancers) c.network-network.ensures.value,
-    )
-
-pub sweep-first-requires-clause-own : goal.sweep-first-requires-clause-own
-sweep-first-requires-clause-own c =
-    let home : (lane_of c.lane.inside).home ≡ c.self.inside.counters =
-    ap (λ (l : LaneValue). l.home) c.lane.view_is ∙ c.requires.own ∙ sym c.self.view_is in
-    (ap (λ (h : FloorValue). h.table) home, ap (λ (h : FloorValue). h.start) home)
-
-pub sweep-first-requires-clause-slots : goal.sweep-first-requires-clause-slots
-sweep-first-requires-clause-slots c = (c.lane.invariant.no_slot, c.lane.invariant.idle)
-
 pub sweep-first-requires-clause-once : goal.sweep-first-requires-clause-once
 sweep-first-requires-clause-once c token =
     subst (λ (ls : Lists). times_in ls token ≤ 1) (ap (λ (l : LaneValue). l.yard.lists) (sym c.lane.view_is) ∙ c.lane.invariant.tokens)
     (c.lane_laws.ensures.once token)
-
-pub sweep-first-requires-clause-wires : goal.sweep-first-requires-clause-wires
-sweep-first-requires-clause-wires c =
-    let home : (lane_of c.lane.inside).home ≡ c.self.inside.counters =
-    ap (λ (l : LaneValue). l.home) c.lane.view_is ∙ c.requires.own ∙ sym c.self.view_is in
-    sym (ap length c.lane.invariant.tokens) ∙ c.lane.invariant.wires ∙ ap (λ (h : FloorValue). length h.start.network.table.ends) home
-
-pub sweep-first-requires-clause-wire : goal.sweep-first-requires-clause-wire
-sweep-first-requires-clause-wire c =
-    let home : (lane_of c.lane.inside).home ≡ c.self.inside.counters =
-    ap (λ (l : LaneValue). l.home) c.lane.view_is ∙ c.requires.own ∙ sym c.self.view_is in
-    subst (λ (n : ℕ). c.args.wire < n) (c.lane.invariant.wires ∙ ap (λ (h : FloorValue). length h.start.network.table.ends) home)
-    (some-inside c.lane.inside.yard.lists c.args.wire (rw (← c.lane.view_is) at c.requires.some))
-
-pub sweep-first-requires-clause-ends : goal.sweep-first-requires-clause-ends
-sweep-first-requires-clause-ends c =
-    ap (λ (x : Network). end_of x.table c.args.wire)
-    (ap (λ (h : FloorValue). h.start.network) c.self.view_is ∙ sym c.network-network.ensures.value) ∙ c.end-end.ensures.at
-
-pub sweep-first-requires-clause-stands : goal.sweep-first-requires-clause-stands
-sweep-first-requires-clause-stands c =
-    subst (λ (x : Network). Stands x.table c.end-end.result)
-    (c.network-network.ensures.value ∙ ap (λ (h : FloorValue). h.start.network) (sym c.self.view_is)) c.end-end.ensures.there
-
-pub overflow_mul-out : goal.overflow_mul-out
-overflow_mul-out c =
-    let stands : Stands c.network-network.result.now.table (Balancer c.in-Balancer.balancer) =
-    subst (λ (e : End). Stands c.network-network.result.now.table e) c.in-Balancer.is c.end-end.ensures.there in
-    omega (arith, stands, c.entries.ensures.network.formed.balancers)
-
-pub overflow_add-out : goal.overflow_add-out
-overflow_add-out c =
-    let stands : Stands c.network-network.result.now.table (Balancer c.in-Balancer.balancer) =
-    subst (λ (e : End). Stands c.network-network.result.now.table e) c.in-Balancer.is c.end-end.ensures.there in
-    omega (arith, stands, c.entries.ensures.value, c.entries.ensures.network.formed.balancers, c.entries.ensures.network.formed.entries)
-
-pub overflow_add-out-in-Balancer : goal.overflow_add-out-in-Balancer
-overflow_add-out-in-Balancer c =
-    let stands : Stands c.network-network.result.now.table (Balancer c.in-Balancer.balancer) =
-    subst (λ (e : End). Stands c.network-network.result.now.table e) c.in-Balancer.is c.end-end.ensures.there in
-    omega (arith, stands, c.entries.ensures.value, c.entries.ensures.network.formed.balancers, c.entries.ensures.network.formed.entries)

@@ -1,13 +1,10 @@
 use Rattle.std.proofs.Common.{◌≡◌, ◌+◌, ◌-◌, ◌++◌, List, [], length, get_or, length-append, sym, ap, ◌∙◌, subst, arith}
-use Rattle.cn_floor.proofs.Common.{FloorValue, Grant, LaneValue, Lists, StoodInState, View, lane_of, on_in, tokens_in}
+use Rattle.cn_floor.proofs.Common.{FloorValue, Grant, LaneValue, Lists, StoodInState, View, on_in, tokens_in}
 use Rattle.cn_yard.proofs.CallerLemmas.{nobody-on}
 use Rattle.cn_floor.specs.Views.{after_join, after_look}
 use Rattle.cn_floor.proofs.InLane.Lanes.{lane-with-way}
 use Rattle.cn_floor.specs.Rule.{FitsLanes}
 use Rattle.cn_floor.proofs.floor.Floor.take_in.Goals as goal
-
-pub make_way-requires-clause-room : goal.make_way-requires-clause-room
-make_way-requires-clause-room c = c.lane.invariant.room
 
 pub invariant_of-lane : goal.invariant_of-lane
 invariant_of-lane c =
@@ -20,34 +17,10 @@ pub returns-in_default-clause-room : goal.returns-in_default-clause-room
 returns-in_default-clause-room c = omega
     (arith, c.in_default.ensures.err, ap length c.grants.ensures, ap (λ (l : LaneValue). l.room) c.lane.view_is)
 
-pub join-requires-clause-own : goal.join-requires-clause-own
-join-requires-clause-own c =
-    let home : (lane_of c.lane.inside).home ≡ c.self.inside.counters =
-    ap (λ (l : LaneValue). l.home) c.lane.view_is ∙ c.requires.own.0 ∙ sym c.self.view_is in (
-      ap (λ (h : FloorValue). h.table) home,
-      c.into_parts-seat.ensures.seat.0
-          ∙ ap (λ (h : FloorValue). h.table) (c.requires.own.1 ∙ sym c.self.view_is),
-    )
-
-pub join-requires-clause-slots : goal.join-requires-clause-slots
-join-requires-clause-slots c =
-    let theirs = c.into_parts-seat.ensures.seat.1 in
-    (c.lane.invariant.no_slot, c.lane.invariant.idle, ap (λ me. me.1) theirs, ap (λ me. me.0.loads) theirs ∙ c.into_parts-seat.ensures.idle)
-
 pub join-requires-clause-out : goal.join-requires-clause-out
 join-requires-clause-out c u =
     ap (λ me. on_in u me.0) c.into_parts-seat.ensures.seat.1 ∙ ap (λ (ls : Lists). length (get_or ls u [])) (sym c.lane_laws.ensures.tokens)
     ∙ nobody-on c.args.other.yard.lists c.requires.out u
-
-pub overflow_add-lane : goal.overflow_add-lane
-overflow_add-lane c = omega (arith, c.lane.invariant.few, c.into_parts-seat.ensures.quota, c.lane_laws.ensures.few)
-
-pub append-requires : goal.append-requires
-append-requires c = omega (
-  arith,
-  c.in-Ok.ensures.ok,
-  ap length (c.as_slice.ensures.value ∙ c.into_parts-seat.ensures.grants ∙ sym c.grants.ensures),
-)
 
 -- what the lane's view is in the end
 module _ (c : goal.After-drop-grants) where

@@ -1,0 +1,105 @@
+use Rattle.std.proofs.Common.{◌≡◌, ℕ, ◌+◌, ◌==◌, List, ◌++◌, count_by, length, arith, sym, ap, ◌∙◌, subst, length-append}
+use Rattle.std.proofs.Math.Seq.{take-length}
+use Rattle.cn_lists.proofs.Common.{Grant, Network, Start, StoodInState, View, on, tokens_in}
+use Rattle.cn_floor.proofs.CallerLemmas.{nobody-in, nobody-there}
+use Rattle.cn_lists.specs.Listed.{by_one_entry}
+use Rattle.cn_lists.proofs.Groups.{placed-many}
+use Rattle.cn_lists.proofs.CameIn.{all-clients, came-once, nobody-stands}
+use Rattle.cn_lists.proofs.Counted.{together-deep, together-steps}
+use Rattle.cn_lists.proofs.InTurn.{walk-together}
+use Rattle.cn_lists.proofs.passing.walk_all.Goals as goal
+
+pub pass_all-requires-clause-once : goal.pass_all-requires-clause-once
+pass_all-requires-clause-once g c =
+    let came = c.come_in-count.ensures.came in
+    came-once _ _ _ _ _ came
+    (omega (
+      arith,
+      came.wires,
+      c.requires.wires,
+      c.network-network.ensures.network.formed.wires,
+      ap (λ (n : Network). length n.table.ends) c.network-network.ensures.value,
+      ap (λ (n : Network). n.table.entries) c.network-network.ensures.value,
+      c.requires.entry,
+    ))
+
+pub pass_all-requires-clause-wire : goal.pass_all-requires-clause-wire
+pass_all-requires-clause-wire g c =
+    omega (
+      arith,
+      c.network-network.ensures.network.formed.wires,
+      ap (λ (n : Network). length n.table.ends) c.network-network.ensures.value,
+      ap (λ (n : Network). n.table.entries) c.network-network.ensures.value,
+      c.requires.entry,
+    )
+
+pub pass_all-requires-clause-many : goal.pass_all-requires-clause-many
+pass_all-requires-clause-many g c =
+    let clients : List ℕ = g.P.Party.clients_of c.args.notes.now in
+    ap length c.come_in-count.ensures.came.there ∙ placed-many clients 0 1 (length clients) ∙ sym c.come_in-count.ensures.count
+
+pub pass_all-requires-clause-party : goal.pass_all-requires-clause-party
+pass_all-requires-clause-party g c =
+    subst (λ (z : ℕ × List (ℕ × ℕ)). g.P.Party.Are (g.P.Party.kept c.args.notes.now) c.args.party z.0 z.1)
+    (λ i. (sym c.come_in-count.ensures.count i, sym c.come_in-count.ensures.came.there i)) c.requires.party
+
+pub pass_all-requires-clause-above : goal.pass_all-requires-clause-above
+pass_all-requires-clause-above g c u more = c.come_in-count.ensures.came.others u (λ e. omega (arith, e, more))
+
+pub returns-clause-left : goal.returns-clause-left
+returns-clause-left g c =
+    let clients : List ℕ = g.P.Party.clients_of c.args.notes.now in
+    let k : ℕ = length clients in
+    let came = c.come_in-count.ensures.came in
+    let left = c.pass_all.ensures.left in
+    let (more, grew, theirs) = left.grants in
+    record {
+      begun = left.start ∙ came.start;
+      loads = left.loads ∙ came.loads;
+      gone = nobody-stands _ _ _ clients c.args.entry k came left;
+      quota = omega (arith, came.quota, left.quota);
+      grants = ap length grew ∙ length-append c.come_in-count.new.seat.me.0.grants more
+          ∙ (λ i. length (came.grants i) + (theirs.as_many ∙ ap length came.there ∙ placed-many clients 0 1 k) i);
+    }
+
+pub returns-clause-walked : goal.returns-clause-walked
+returns-clause-walked g c =
+    let start : Start = c.args.floor.now.start in
+    let v : View = c.args.seat.now.me.0 in
+    let w : View = c.come_in-count.new.seat.me.0 in
+    let x : View = c.pass_all.new.seat.me.0 in
+    let clients : List ℕ = g.P.Party.clients_of c.args.notes.now in
+    let k : ℕ = length clients in
+    let came = c.come_in-count.ensures.came in
+    let left = c.pass_all.ensures.left in
+    let net = c.network-network.ensures.network in
+    let stood : length (on w.tokens c.args.entry) ≡ k = ap length came.there ∙ placed-many clients 0 1 k in
+    let (more, grew, theirs) = left.grants in
+    let nobody : tokens_in v.tokens ≡ 0 = nobody-there v.tokens (λ u. ap length (c.requires.out u)) in
+    let out : tokens_in x.tokens ≡ 0 =
+    ap tokens_in (nobody-stands v w x clients c.args.entry k came left) ∙ nobody-in (length v.tokens) in
+    let many : length x.grants ≡ length v.grants + k =
+    ap length grew ∙ length-append w.grants more ∙ (λ i. length (came.grants i) + (theirs.as_many ∙ stood) i) in
+    let walk = walk-together start clients c.args.entry v w x c.come_in-count.ensures.step c.pass_all.ensures.swept in
+    record {
+      together = walk;
+      quota = omega (arith, came.quota, left.quota);
+      entries = left.entries ∙ came.entries;
+      came = left.came ∙ came.came ∙ (λ i. v.came ++ by_one_entry c.args.entry (take-length clients i));
+      seen = left.seen ∙ came.seen;
+      grants = (
+        more,
+        grew ∙ (λ i. came.grants i ++ more),
+        theirs.as_many ∙ stood,
+        λ client. theirs.as_often client ∙ ap (count_by (λ e. e.1 == client)) came.there ∙ all-clients clients client,
+      );
+      enough_steps = λ some. together-deep start clients c.args.entry k v x net walk nobody out many some;
+      few_steps = together-steps start clients c.args.entry k v x net walk nobody out many;
+      in_state = λ some. subst (λ (s : Start). StoodInState s x) (came.start ∙ c.requires.own.1)
+          (left.in_state (omega (arith, some, stood)));
+    }
+
+pub returns-clause-noted : goal.returns-clause-noted
+returns-clause-noted g c before noted =
+    c.pass_all.ensures.noted before (subst (λ (gs : List Grant). g.P.Party.Noted before gs c.args.notes.now)
+    (sym c.come_in-count.ensures.came.grants) noted)
