@@ -82,7 +82,7 @@ MOST = {
         "put_at": 3, "no_rows": 2, "free_place": 3, ".add": 4, ".subtract": 2, ".slot": 4, ".returns": 5,
         "Ended::after": 1, ".new_search": 2, ".search": 3, ".search_lane": 2, ".search_free": 1, "read_row": 3,
         "std::sync::atomic::AtomicU64": ANY, "AtomicU64": 13, "std::sync::atomic::Ordering::SeqCst": 5,
-        ".load": 7, ".fetch_add": 4, ".fetch_sub": 3,
+        ".load": 8, ".fetch_add": 4, ".fetch_sub": 3,
         # What was put there is ghost data.
         "std::snapshot::Snapshot": ANY, "Snapshot": 3, "Snapshot::of": 1,
         # Two grants of a slice of a lane's own.
