@@ -1,5 +1,5 @@
-//! Three clients in one lane of a counting tree of width 4, of which the last overtakes the others: the caller of the
-//! floor's page, word for word, and what it is answered.
+//! Three clients in one lane of a counting tree of width 4, of which the last overtakes the others, and what is
+//! answered.
 
 ghost use Rattle.std.specs.Prelude.{◌≡◌};
 

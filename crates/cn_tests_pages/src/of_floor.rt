@@ -1,4 +1,4 @@
-//! The calls of a floor, in order, as docs/EMBEDDING.md shows them.
+//! The calls of a floor, in order: the caller of the page of cn_floor.
 
 ghost use Rattle.std.specs.Prelude.{◌≡◌};
 
