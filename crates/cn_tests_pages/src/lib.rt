@@ -15,7 +15,6 @@ pub mod of_names;
 pub mod of_nets;
 pub mod of_periodic;
 pub mod of_renamer;
-pub mod of_replies;
 pub mod of_report;
 pub mod of_spec;
 pub mod of_texts;
