@@ -37,9 +37,10 @@ MOST = {
         "atomic_table::Closed": ANY, "atomic_table::Join": 1, "atomic_table::Play": 1, "atomic_table::Seat": ANY,
         "atomic_table::Split": 1, "atomic_table::Table": 2, "atomic_table::TableRule": 1, "Table": 6, "Play": 7,
         "Join": 3, "Split": 3, "table_of": 3, "Counters::new": 1, ".shared": 10, ".fetch_add": 4, ".load": 2,
-        ".split_seat": 3, ".join_seat": 2,
-        # Seats, which lanes have, and what is done by one.
-        "Seat": ANY, ".seat": ANY, "::lay": 1, ".grant_one": 1, ".enter_all": 1, "make_way": ANY, ".let_walk": 2,
+        ".split_seat": 2, ".join_seat": 2,
+        # Seats, the posts that have them, which lanes have, and what is done by one.
+        "Seat": ANY, ".seat": ANY, "Post": ANY, ".post": ANY, "::lay": 1, ".grant_one": 1, ".enter_all": 1,
+        ".entered_by": 1, ".split_post": 1, ".join_post": 1, ".look_at_both_posts": 1, "make_way": ANY, ".let_walk": 2,
         # Lanes that are split off, and floors that open.
         ".split": 1, ".split_off": 1, "::open_words": 2,
         # The network, which several may own.
@@ -47,9 +48,9 @@ MOST = {
         # Ghost data, and the receipts.
         "std::snapshot::Snapshot": ANY, "Snapshot": 27, "Snapshot::of": 9, "of_one": 2,
     },
-    # Takers, which have seats, and what is done by a seat: the clients of a list, and names that are taken.
-    "cn_lists": {"Seat": ANY, ".seat": ANY, "::lay": 1, ".grant_one": 1, ".enter_list": 1, ".let_by": 1,
-                 ".entered_by": 1, ".split_seat": 1, ".let_walk": 1, "open_for_takers": 2},
+    # Takers, which have posts, and what is done by a post: the clients of a list, and names that are taken.
+    "cn_lists": {"Post": ANY, ".post": ANY, "::lay": 1, ".grant_one": 1, ".enter_list": 1, ".let_by": 1,
+                 ".entered_by": 1, ".split_post": 1, ".let_walk": 1, "open_for_takers": 2},
     "cn_walk": {
         # Threads with small stacks, and that each returns what its call does.
         "std::thread": ANY, "std::thread::Promise": ANY, "std::thread::scope": 1, "std::thread::scope_env": 1,

@@ -21,7 +21,7 @@ pub use Rattle.cn_yard.specs.Lists.{IsThere, Lists, Yard, last_on, on, times_in,
 pub use Rattle.cn_floor.specs.Alone.{IsAlone}
 pub use Rattle.cn_floor.specs.Carried.{IsClosed, WordsValue}
 pub use Rattle.cn_floor.specs.InsideLane.{lane_of}
-pub use Rattle.cn_floor.specs.Lane.{FloorValue, LaneValue}
+pub use Rattle.cn_floor.specs.Lane.{FloorValue, LaneValue, PostValue}
 pub use Rattle.cn_floor.specs.Plays.{IsLetBy}
 pub use Rattle.cn_floor.specs.Rule.{HoldsAt, IsAccounted, IsFresh, IsStart, ledger_of, load_bound, start_of}
 pub use Rattle.cn_floor.specs.Spread.{spread, words_in}

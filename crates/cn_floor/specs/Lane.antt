@@ -20,6 +20,15 @@ pub record FloorValue : Type 0 where
   pub table : TableId
   pub start : Start
 
+-- a post: its floor, and what it has done
+pub record PostValue : Type 0 where
+  pub home : FloorValue
+  pub view : View
+
+-- a post of this floor that has done nothing
+abbrev pub empty_post : FloorValue → ℕ → PostValue
+empty_post home quota = record { home = home; view = empty_view home.start quota }
+
 -- a lane: its floor, what it has done, its tokens on their wires with the free records for more, and for how many
 -- grants more it has room, beside one for each token
 pub record LaneValue : Type 0 where

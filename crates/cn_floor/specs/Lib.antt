@@ -12,6 +12,7 @@ pub mod Sweeps
 pub mod EntersAll
 pub mod Plays
 pub mod Lane
+pub mod InsidePost
 pub mod InsideLane
 pub mod Ends
 pub mod Closing

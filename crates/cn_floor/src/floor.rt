@@ -1,6 +1,6 @@
 //! A floor: a counting network on atomic words, which lanes share.
 
-mod by_seat;
+mod by_post;
 mod closed_floor;
 mod closing;
 mod counters;
@@ -12,6 +12,7 @@ mod naming;
 mod network_ref;
 mod opening;
 mod plays;
+mod post;
 mod quiet;
 mod reading;
 mod receipts;
@@ -33,6 +34,7 @@ pub use lane::Lane;
 pub use leftovers::Leftovers;
 pub use naming::walk_one;
 use opening::{yard_for, zeros};
+pub use post::Post;
 pub use quiet::Quiet;
 pub use receipts::Receipts;
 pub use shared_floor::SharedFloor;

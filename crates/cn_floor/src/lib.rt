@@ -7,11 +7,10 @@ mod gate;
 pub mod laws;
 mod view;
 
-pub use atomic_table::Seat;
 pub use fault::{JoinFault, LaneFault, OpenFault, SplitFault};
 pub use floor::{
-    CloseFault, ClosedFloor, Floor, Lane, Leftovers, Quiet, Receipts, SharedFloor, Walk, Words,
-    walk_one,
+    CloseFault, ClosedFloor, Floor, Lane, Leftovers, Post, Quiet, Receipts, SharedFloor, Walk,
+    Words, walk_one,
 };
 pub use gate::{Gate, Moment, NoPause, OpenGate, Pause};
 pub use view::{Grant, Opening, Passage, Start, Sweep, View};

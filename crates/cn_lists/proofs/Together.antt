@@ -50,6 +50,7 @@ module _ {start : Start} {wire b n : ℕ} {v w : View} (go : GoTogether start wi
         came = like.came;
         seen = like.seen;
         loads = like.loads;
+        wires = like.wires;
       })
 
   pub grants-so : w.grants ≡ v.grants

@@ -5,14 +5,8 @@ use Rattle.cn_lists.specs.Taking.{TakerValue}
 
 -- a taker as contracts see it
 abbrev pub taker_of : Inside → TakerValue
-taker_of t = record {
-  home = record { table = t.seat.table_id; start = t.seat.me.0.start };
-  view = t.seat.me.0;
-}
+taker_of t = t.post
 
--- nobody of a taker is inside, and its numbers are those that its view records
-pub record IsTaker (t : Inside) : Type 0 where
-  pub no_slot : t.seat.me.1 ≡ []
-  pub idle : t.seat.me.0.loads ≡ []
-  pub out : t.seat.me.0.tokens ≡ replicate (length t.seat.me.0.start.network.table.ends) []
-  pub quota : t.quota ≡ t.seat.me.0.quota
+-- nobody of a taker is inside
+abbrev pub IsTaker : Inside → Type 0
+IsTaker t = t.post.view.tokens ≡ replicate (length t.post.home.start.network.table.ends) []

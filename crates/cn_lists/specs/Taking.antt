@@ -2,20 +2,17 @@
 use Rattle.std.specs.Prelude.{◌≡◌, ℕ, ◌+◌, ◌<◌, ◌++◌, List, get_or, length, map}
 use Rattle.cn_lists.specs.declared.taking.Names.{Names}
 use Rattle.cn_floor.specs.declared.view.Grant.{Grant}
-use Rattle.cn_floor.specs.declared.view.View.{View}
-use Rattle.cn_floor.specs.Lane.{FloorValue}
+use Rattle.cn_floor.specs.Lane.{FloorValue, PostValue, empty_post}
 use Rattle.cn_lists.specs.Listed.{HaveWalked}
 use Rattle.cn_floor.specs.Named.{IsGranted}
-use Rattle.cn_floor.specs.Views.{empty_view}
 
--- a taker: its floor, and what it has done
-pub record TakerValue : Type 0 where
-  pub home : FloorValue
-  pub view : View
+-- a taker is its post: its floor, and what it has done
+abbrev pub TakerValue : Type 0
+TakerValue = PostValue
 
 -- a taker of this floor that has done nothing
 abbrev pub empty_taker : FloorValue → ℕ → TakerValue
-empty_taker home quota = record { home = home; view = empty_view home.start quota }
+empty_taker home quota = empty_post home quota
 
 -- a taker took one name more: a client without an identity, for which 0 stands, walked through
 pub record IsTaken (old new : TakerValue) (entry name : ℕ) : Type 0 where

@@ -8,7 +8,7 @@ ghost use Rattle.cn_lists.specs.Listed.{AreNamed, HaveWalked, ListFrame, Stand, 
 
 use crate::passing::{Party, walk_all};
 use cn_exit::name_of;
-use cn_floor::{Floor, Grant, Lane, LaneFault, Seat, View, Walk};
+use cn_floor::{Floor, Grant, Lane, LaneFault, Post, Walk};
 
 /// Where those of a list's clients who stand on one wire stand in the list, first to last: at every `stride`-th place
 /// from `first` on.
@@ -94,19 +94,13 @@ impl<'c> Walk<()> for Together<'c> {
         self.clients.len() as u64
     }
 
-    fn walk(
-        &self,
-        floor: &Floor<'_>,
-        seat: &mut Seat<(), View>,
-        grants: &mut Vec<Grant>,
-        entry: u32,
-    ) {
+    fn walk(&self, floor: &Floor<'_>, post: &mut Post, grants: &mut Vec<Grant>, entry: u32) {
         let all = Places {
             first: 0,
             stride: 1,
         };
         let clients = self.clients;
-        walk_all(floor, seat, &mut Granting { grants, clients }, all, entry);
+        walk_all(floor, post, &mut Granting { grants, clients }, all, entry);
     }
 }
 

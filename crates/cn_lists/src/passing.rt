@@ -11,7 +11,7 @@ ghost use Rattle.cn_floor.specs.Sweeps.{SweptBy, grants_out};
 ghost use Rattle.cn_floor.specs.declared.view.Grant.{Grant};
 
 use cn_balancer::output_of;
-use cn_floor::{Floor, Seat, View};
+use cn_floor::{Floor, Post};
 use cn_tables::{Counting, End};
 
 /// Which tokens stand on one wire. Of those who leave, notes of type `N` are taken.
@@ -82,48 +82,45 @@ pub(crate) trait Party<N>: Copy {
 pub(crate) fn pass_all<N, P: Party<N>>(
     floor: &Floor<'_>,
     network: &Counting,
-    seat: &mut Seat<(), View>,
+    post: &mut Post,
     notes: &mut N,
     party: P,
     count: usize,
     wire: u32,
 )
-    requires own { (seat.old.table_id ≡ floor.now.table)
-        × (seat.old.me.0.start ≡ floor.now.start) }
-    requires slots { (seat.old.me.1 ≡ []) × (seat.old.me.0.loads ≡ []) }
-    requires wires { length seat.old.me.0.tokens ≡ length floor.now.start.network.table.ends }
+    requires own { post.old.home ≡ floor.now }
     requires wire { wire < length floor.now.start.network.table.ends }
-    requires once { (token : ℕ) → times_in seat.old.me.0.tokens token ≤ 1 }
+    requires once { (token : ℕ) → times_in post.old.view.tokens token ≤ 1 }
     requires network { network.now ≡ floor.now.start.network }
-    requires many { length (on seat.old.me.0.tokens wire) ≡ count }
-    requires party { P.Are (P.kept notes.old) party count (on seat.old.me.0.tokens wire) }
-    requires above { (u : ℕ) → wire < u → on seat.old.me.0.tokens u ≡ [] }
+    requires many { length (on post.old.view.tokens wire) ≡ count }
+    requires party { P.Are (P.kept notes.old) party count (on post.old.view.tokens wire) }
+    requires above { (u : ℕ) → wire < u → on post.old.view.tokens u ≡ [] }
     requires room { count ≤ P.room notes.old }
-    ensures seat { (seat.new.table_id ≡ seat.old.table_id) × (seat.new.me.1 ≡ []) }
-    ensures swept { (wires : List ℕ) × SweptBy floor.now.start wires seat.old.me.0 seat.new.me.0 }
-    ensures left { HaveLeft seat.old.me.0 seat.new.me.0 wire (on seat.old.me.0.tokens wire) }
-    ensures once { (token : ℕ) → times_in seat.new.me.0.tokens token ≤ 1 }
+    ensures home { post.new.home ≡ post.old.home }
+    ensures swept { (wires : List ℕ) × SweptBy floor.now.start wires post.old.view post.new.view }
+    ensures left { HaveLeft post.old.view post.new.view wire (on post.old.view.tokens wire) }
+    ensures once { (token : ℕ) → times_in post.new.view.tokens token ≤ 1 }
     ensures kept { P.kept notes.new ≡ P.kept notes.old }
     ensures room { P.room notes.new + count ≡ P.room notes.old }
-    ensures noted { (before : List Grant) → P.Noted before seat.old.me.0.grants notes.old
-        → P.Noted before seat.new.me.0.grants notes.new }
+    ensures noted { (before : List Grant) → P.Noted before post.old.view.grants notes.old
+        → P.Noted before post.new.view.grants notes.new }
 {
     if count == 0 {
         return;
     }
     floor.start_laws();
-    let (end, number) = floor.let_by(network, seat, wire, count as u64);
+    let (end, number) = floor.let_by(network, post, wire, count as u64);
     match end {
         End::Balancer(balancer) => {
             let out = network.entries() + 2 * balancer;
             let output = output_of(number);
             if count == 1 {
-                return pass_all(floor, network, seat, notes, party, count, out + output);
+                return pass_all(floor, network, post, notes, party, count, out + output);
             }
             let many = (count + output as usize) / 2;
             let (upper, lower) = party.deal(count, output);
-            pass_all(floor, network, seat, notes, lower, many, out + 1);
-            pass_all(floor, network, seat, notes, upper, count - many, out);
+            pass_all(floor, network, post, notes, lower, many, out + 1);
+            pass_all(floor, network, post, notes, upper, count - many, out);
         }
         End::Exit(exit) => party.leave(notes, count, exit, number, network.width(), floor.base()),
     }
@@ -133,56 +130,52 @@ pub(crate) fn pass_all<N, P: Party<N>>(
 /// are. Each one's token has the number of its place in the list.
 fn come_in<N, P: Party<N>>(
     floor: &Floor<'_>,
-    seat: &mut Seat<(), View>,
+    post: &mut Post,
     notes: &N,
     party: P,
     entry: u32,
 ) -> usize
-    requires own { (seat.old.table_id ≡ floor.now.table)
-        × (seat.old.me.0.start ≡ floor.now.start) }
-    requires slots { (seat.old.me.1 ≡ []) × (seat.old.me.0.loads ≡ []) }
-    requires wires { length seat.old.me.0.tokens ≡ length floor.now.start.network.table.ends }
-    requires out { (wire : ℕ) → on seat.old.me.0.tokens wire ≡ [] }
+    requires own { post.old.home ≡ floor.now }
+    requires out { (wire : ℕ) → on post.old.view.tokens wire ≡ [] }
     requires entry { entry < floor.now.start.network.table.entries }
-    requires quota { length (P.clients_of notes.now) ≤ seat.old.me.0.quota }
-    ensures seat { (seat.new.table_id ≡ seat.old.table_id) × (seat.new.me.1 ≡ []) }
+    requires quota { length (P.clients_of notes.now) ≤ post.old.view.quota }
+    ensures home { post.new.home ≡ post.old.home }
     ensures count { result ≡ length (P.clients_of notes.now) }
-    ensures came { CameIn seat.old.me.0 seat.new.me.0 (P.clients_of notes.now) entry
+    ensures came { CameIn post.old.view post.new.view (P.clients_of notes.now) entry
         (length (P.clients_of notes.now)) }
-    ensures step { ComeTogether floor.now.start (P.clients_of notes.now) entry seat.old.me.0 seat.new.me.0 }
+    ensures step { ComeTogether floor.now.start (P.clients_of notes.now) entry post.old.view post.new.view }
 {
     floor.start_laws();
+    post.post_laws();
     let clients = party.clients(notes);
-    floor.enter_list(seat, clients, entry);
+    floor.enter_list(post, clients, entry);
     clients.len()
 }
 
 /// Lets the clients who may be noted in by one entry and walks them out, by a view with nobody inside.
 pub(crate) fn walk_all<N, P: Party<N>>(
     floor: &Floor<'_>,
-    seat: &mut Seat<(), View>,
+    post: &mut Post,
     notes: &mut N,
     party: P,
     entry: u32,
 )
-    requires own { (seat.old.table_id ≡ floor.now.table)
-        × (seat.old.me.0.start ≡ floor.now.start) }
-    requires slots { (seat.old.me.1 ≡ []) × (seat.old.me.0.loads ≡ []) }
-    requires wires { length seat.old.me.0.tokens ≡ length floor.now.start.network.table.ends }
-    requires out { (wire : ℕ) → on seat.old.me.0.tokens wire ≡ [] }
+    requires own { post.old.home ≡ floor.now }
+    requires out { (wire : ℕ) → on post.old.view.tokens wire ≡ [] }
     requires entry { entry < floor.now.start.network.table.entries }
-    requires quota { length (P.clients_of notes.old) ≤ seat.old.me.0.quota }
+    requires quota { length (P.clients_of notes.old) ≤ post.old.view.quota }
     requires party { P.Are (P.kept notes.old) party (length (P.clients_of notes.old))
         (placed (P.clients_of notes.old) 0 1 (length (P.clients_of notes.old))) }
     requires room { length (P.clients_of notes.old) ≤ P.room notes.old }
-    ensures seat { (seat.new.table_id ≡ seat.old.table_id) × (seat.new.me.1 ≡ []) }
-    ensures left { AllLeft (length (P.clients_of notes.old)) seat.old.me.0 seat.new.me.0 }
-    ensures walked { HaveWalked floor.now.start (P.clients_of notes.old) entry seat.old.me.0 seat.new.me.0 }
+    ensures home { post.new.home ≡ post.old.home }
+    ensures left { AllLeft (length (P.clients_of notes.old)) post.old.view post.new.view }
+    ensures walked { HaveWalked floor.now.start (P.clients_of notes.old) entry post.old.view post.new.view }
     ensures kept { P.kept notes.new ≡ P.kept notes.old }
-    ensures noted { (before : List Grant) → P.Noted before seat.old.me.0.grants notes.old
-        → P.Noted before seat.new.me.0.grants notes.new }
+    ensures noted { (before : List Grant) → P.Noted before post.old.view.grants notes.old
+        → P.Noted before post.new.view.grants notes.new }
 {
-    let count = come_in(floor, seat, notes, party, entry);
+    post.post_laws();
+    let count = come_in(floor, post, notes, party, entry);
     let network = floor.network();
-    pass_all(floor, network, seat, notes, party, count, entry);
+    pass_all(floor, network, post, notes, party, count, entry);
 }

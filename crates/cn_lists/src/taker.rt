@@ -6,7 +6,7 @@ ghost use Rattle.cn_floor.specs.Carried.{client_count, start_after};
 ghost use Rattle.cn_floor.specs.Words.{word_count};
 ghost use Rattle.cn_lists.specs.Taking.{empty_taker};
 
-use cn_floor::{Floor, Seat, View, Words};
+use cn_floor::{Floor, Post, Words};
 use std::alloc::Global;
 use std::marker::Model;
 
@@ -14,8 +14,7 @@ use std::marker::Model;
 /// client, and nobody inside: it takes no memory, however many names are taken.
 #[derive(Drop)]
 pub struct Taker {
-    pub(crate) seat: Seat<(), View>,
-    pub(crate) quota: u64,
+    pub(crate) post: Post,
 }
 
 impl Model for Taker {
@@ -34,7 +33,7 @@ impl Taker {
     pub fn quota(&self) -> u64
         ensures { result ≡ self.now.view.quota }
     {
-        self.quota
+        self.post.quota()
     }
 }
 
@@ -56,7 +55,7 @@ pub fn open_for_takers<'a>(
     ensures back { IfErr result (λ back. back ≡ words.entry) }
 {
     match Floor::lay(alloc, words, quota) {
-        Ok((floor, seat)) => Ok((floor, Taker { seat, quota })),
+        Ok((floor, post)) => Ok((floor, Taker { post })),
         Err(words) => Err(words),
     }
 }

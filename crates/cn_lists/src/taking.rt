@@ -82,11 +82,10 @@ pub fn take(floor: &Floor<'_>, taker: &mut Taker, entry: u64) -> Result<u64, Lan
     if entry >= u64::from(network.entries()) {
         return Err(LaneFault::NoSuchEntry);
     }
-    if taker.quota == 0 {
+    if taker.quota() == 0 {
         return Err(LaneFault::QuotaSpent);
     }
-    let grant = floor.grant_one(network, &mut taker.seat, 0, entry as u32, &NoPause);
-    taker.quota -= 1;
+    let grant = floor.grant_one(network, &mut taker.post, 0, entry as u32, &NoPause);
     Ok(grant.name)
 }
 
@@ -112,12 +111,8 @@ pub fn split_off_taker(
     ensures small { IsErrOf result SplitFault.QuotaTooSmall ↔ (taker.old.view.quota < quota) }
     ensures memory { ¬ (IsErrOf result SplitFault.Memory) }
 {
-    if quota > taker.quota {
-        return Err(SplitFault::QuotaTooSmall);
-    }
-    let seat = floor.split_seat(&mut taker.seat, quota);
-    taker.quota -= quota;
-    Ok(Taker { seat, quota })
+    let post = floor.split_post(&mut taker.post, quota)?;
+    Ok(Taker { post })
 }
 
 /// How many clients came in since the floor began, by all takers, as far as one can see ([`cn_floor::Floor::entered`]).
@@ -128,7 +123,7 @@ pub fn takes_begun(floor: &Floor<'_>, taker: &mut Taker) -> u64
         ≡ record taker.old { view = after_entered floor.now.start result taker.old.view } }
     ensures in_state { StoodInState floor.now.start taker.new.view }
 {
-    floor.entered_by(&mut taker.seat)
+    floor.entered_by(&mut taker.post)
 }
 
 /// Takes a name for each place of a list, and writes them there: clients without identities come in by one entry
@@ -157,11 +152,10 @@ pub fn take_many(
         return Err(LaneFault::NoSuchEntry);
     }
     let count = names.len() as u64;
-    if taker.quota < count {
+    if taker.quota() < count {
         return Err(LaneFault::QuotaSpent);
     }
     let mut notes = Names { names, at: 0 };
-    walk_all(floor, &mut taker.seat, &mut notes, Anyone, entry as u32);
-    taker.quota -= count;
+    walk_all(floor, &mut taker.post, &mut notes, Anyone, entry as u32);
     Ok(())
 }

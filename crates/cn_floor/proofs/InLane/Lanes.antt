@@ -1,7 +1,7 @@
 -- What a lane holds is what its view says, also after a step.
 use Rattle.std.proofs.Common.{Global, Vec, ◌≡◌, ℕ, ◌+◌, ◌-◌, ◌%◌, ◌<◌, ◌≤◌, List, [], ◌∷◌, ◌++◌, length, get_or, Some, sym, ap, ◌∙◌, subst, arith, append-nil}
 use Rattle.std.specs.Prelude.{vec_capacity}
-use Rattle.cn_floor.proofs.Common.{Balancer, End, Exit, Grant, IsAtomicStep, IsLetBy, LaneValue, Start, View, after_enter, after_step, base, end_of, last_on, length_push, name_of, on, output_wire, tokens_in, without}
+use Rattle.cn_floor.proofs.Common.{Balancer, End, Exit, FloorValue, Grant, IsAtomicStep, IsLetBy, LaneValue, Start, View, after_enter, after_step, base, end_of, last_on, length_push, name_of, on, output_wire, tokens_in, without}
 use Rattle.cn_yard.specs.Lists.{Admits, Moves, Releases, standing}
 use Rattle.cn_ledger.specs.Moves.{IsMoveOf}
 use Rattle.cn_ledger.specs.declared.moved.Moved.{Moved}
@@ -12,9 +12,9 @@ use Rattle.cn_floor.specs.Rule.{FitsLanes}
 use Rattle.cn_floor.specs.Steps.{answer_at}
 use Rattle.cn_floor.proofs.Lists.{made}
 
-module _ (old new : Inside) (token client : ℕ) (kept : IsLane old) (no_slot : new.seat.me.1 ≡ []) where
+module _ (old new : Inside) (token client : ℕ) (kept : IsLane old) (home : new.post.home ≡ old.post.home) where
   abbrev v : View
-  v = old.seat.me.0
+  v = old.post.view
 
   -- the lists on each wire, as the view has them
   same-on : (u : ℕ) → get_or v.tokens u [] ≡ on old.yard.lists u
@@ -24,64 +24,52 @@ module _ (old new : Inside) (token client : ℕ) (kept : IsLane old) (no_slot : 
   long = ap length (sym kept.tokens)
 
   -- a client came in
-  pub lane-in : (entry : ℕ) → new.seat.me.0 ≡ after_enter token client entry v → Admits old.yard new.yard token client entry
-      → new.grants ≡ old.grants → new.quota ≡ old.quota - 1 → 0 < old.quota → new.room ≡ old.room - 1
+  pub lane-in : (entry : ℕ) → new.post.view ≡ after_enter token client entry v → Admits old.yard new.yard token client entry
+      → new.grants ≡ old.grants → 0 < v.quota → new.room ≡ old.room - 1
       → length old.grants.items + tokens_in old.yard.lists + 1 ≤ vec_capacity old.grants → IsLane new
-  lane-in entry view yard grants quota some room fit = record {
-    no_slot = no_slot;
-    idle = ap (λ (w : View). w.loads) view ∙ kept.idle;
+  lane-in entry view yard grants some room fit = record {
     tokens =
         made v.tokens (λ u. get_or v.tokens u [] ++ last_on token client entry u) new.yard.lists (yard.wires ∙ sym long)
         (λ u. yard.lists u ∙ ap (λ (es : List (ℕ × ℕ)). es ++ last_on token client entry u) (sym (same-on u)))
         ∙ ap (λ (w : View). w.tokens) (sym view);
-    wires = yard.wires ∙ kept.wires ∙ ap (λ (w : View). length w.start.network.table.ends) (sym view);
     grants = ap (λ g. g.items) grants ∙ kept.grants ∙ ap (λ (w : View). w.grants) (sym view);
-    quota = quota ∙ ap (λ (k : ℕ). k - 1) kept.quota ∙ ap (λ (w : View). w.quota) (sym view);
-    small = subst FitsLanes (ap (λ (w : View). w.start) (sym view)) kept.small;
-    few = omega (arith, kept.few, yard.tokens);
+    small = subst FitsLanes (ap (λ (h : FloorValue). h.start) (sym home)) kept.small;
+    few = omega (arith, kept.few, some, yard.tokens, ap (λ (w : View). w.quota) view);
     room = rw grants (omega (arith, kept.room, yard.tokens));
   }
 
   -- a token passed a balancer
-  pub lane-on : (b n to : ℕ) → to ≡ output_wire v.start.network.table b (n % 2) → new.seat.me.0 ≡ after_step token client (Balancer b) n v
+  pub lane-on : (b n to : ℕ) → to ≡ output_wire v.start.network.table b (n % 2) → new.post.view ≡ after_step token client (Balancer b) n v
       → Moves old.yard new.yard token client to
-      → new.grants ≡ old.grants → new.quota ≡ old.quota → new.room ≡ old.room → IsLane new
-  lane-on b n to at view yard grants quota room = record {
-    no_slot = no_slot;
-    idle = ap (λ (w : View). w.loads) view ∙ kept.idle;
+      → new.grants ≡ old.grants → new.room ≡ old.room → IsLane new
+  lane-on b n to at view yard grants room = record {
     tokens =
         made v.tokens (λ u. without token (get_or v.tokens u []) ++ last_on token client (output_wire v.start.network.table b (n % 2)) u)
         new.yard.lists (yard.wires ∙ sym long)
         (λ u. yard.lists u ∙ (λ i. without token (sym (same-on u) i) ++ last_on token client (at i) u))
         ∙ ap (λ (w : View). w.tokens) (sym view);
-    wires = yard.wires ∙ kept.wires ∙ ap (λ (w : View). length w.start.network.table.ends) (sym view);
     grants = ap (λ g. g.items) grants ∙ kept.grants ∙ ap (λ (w : View). w.grants) (sym view);
-    quota = quota ∙ kept.quota ∙ ap (λ (w : View). w.quota) (sym view);
-    small = subst FitsLanes (ap (λ (w : View). w.start) (sym view)) kept.small;
-    few = omega (arith, kept.few, yard.tokens);
+    small = subst FitsLanes (ap (λ (h : FloorValue). h.start) (sym home)) kept.small;
+    few = omega (arith, kept.few, yard.tokens, ap (λ (w : View). w.quota) view);
     room = rw grants (omega (arith, kept.room, yard.tokens));
   }
 
   -- a token left
   pub lane-out : (i n name : ℕ) → name ≡ name_of v.start.network.table.width i n - base v.start
-      → new.seat.me.0 ≡ after_step token client (Exit i) n v → Releases old.yard new.yard token
+      → new.post.view ≡ after_step token client (Exit i) n v → Releases old.yard new.yard token
       → new.grants.items ≡ old.grants.items ++ record { client = client; exit = i; visit = n; name = name } ∷ []
       → vec_capacity new.grants ≡ vec_capacity old.grants
-      → new.quota ≡ old.quota → new.room ≡ old.room → IsLane new
-  lane-out i n name named view yard grants capacity quota room = record {
-    no_slot = no_slot;
-    idle = ap (λ (w : View). w.loads) view ∙ kept.idle;
+      → new.room ≡ old.room → IsLane new
+  lane-out i n name named view yard grants capacity room = record {
     tokens =
         made v.tokens (λ u. without token (get_or v.tokens u []) ++ []) new.yard.lists (yard.wires ∙ sym long)
         (λ u. yard.lists u ∙ ap (λ (es : List (ℕ × ℕ)). without token es) (sym (same-on u))
         ∙ sym (append-nil (without token (get_or v.tokens u []))))
         ∙ ap (λ (w : View). w.tokens) (sym view);
-    wires = yard.wires ∙ kept.wires ∙ ap (λ (w : View). length w.start.network.table.ends) (sym view);
     grants = grants ∙ (λ x. kept.grants x ++ record { client = client; exit = i; visit = n; name = named x } ∷ [])
         ∙ ap (λ (w : View). w.grants) (sym view);
-    quota = quota ∙ kept.quota ∙ ap (λ (w : View). w.quota) (sym view);
-    small = subst FitsLanes (ap (λ (w : View). w.start) (sym view)) kept.small;
-    few = omega (arith, kept.few, yard.tokens);
+    small = subst FitsLanes (ap (λ (h : FloorValue). h.start) (sym home)) kept.small;
+    few = omega (arith, kept.few, yard.tokens, ap (λ (w : View). w.quota) view);
     room = omega (
       arith,
       kept.room,
@@ -121,14 +109,10 @@ module _ (old new : LaneValue) (token client wire n : ℕ) (answer : Moved) wher
 -- a lane whose list of grants got way for more keeps what it kept
 pub lane-with-way : (l : Inside) (grants : Vec Grant Global) → IsLane l → grants.items ≡ l.grants.items
     → length grants.items + tokens_in l.yard.lists + l.room ≤ vec_capacity grants
-    → IsLane (record { seat = l.seat; yard = l.yard; grants = grants; quota = l.quota; room = l.room })
+    → IsLane (record { post = l.post; yard = l.yard; grants = grants; room = l.room })
 lane-with-way l grants kept items room = record {
-  no_slot = kept.no_slot;
-  idle = kept.idle;
   tokens = kept.tokens;
-  wires = kept.wires;
   grants = items ∙ kept.grants;
-  quota = kept.quota;
   small = kept.small;
   few = kept.few;
   room = room;

@@ -1,7 +1,7 @@
 -- What a lane holds is what its view says, also after a sweep.
 use Rattle.std.proofs.Common.{◌≡◌, ◌≢◌, ℕ, zero, suc, ◌+◌, ◌-◌, ◌*◌, ◌%◌, ◌<◌, ◌≤◌, List, [], ◌∷◌, ◌++◌, length, get_or, refl, sym, ap, ◌∙◌, subst, arith, append-nil, length-append, inl, inr}
 use Rattle.std.specs.Prelude.{vec_capacity}
-use Rattle.cn_floor.proofs.Common.{AreLetBy, Balancer, End, Exit, Grant, LaneValue, Lists, Start, View, Yard, after_step, after_sweep, append_assoc, base, cases_lt, end_of, get_or_past, last_on, name_of, on, output_wire, times_in, tokens_in, without}
+use Rattle.cn_floor.proofs.Common.{AreLetBy, Balancer, End, Exit, FloorValue, Grant, LaneValue, Lists, Start, View, Yard, after_step, after_sweep, append_assoc, base, cases_lt, end_of, get_or_past, last_on, length-map-range_with_len, name_of, on, output_wire, times_in, tokens_in, without}
 use Rattle.cn_yard.specs.Deals.{Deals, Frees, IsCleared, IsDealt, out_of}
 use Rattle.cn_yard.specs.Lists.{Moves, Releases}
 use Rattle.cn_yard.proofs.CallerLemmas.{once-gone, others-on, rest-on}
@@ -22,14 +22,33 @@ pub record IsKin (v w : View) : Type 0 where
   pub came : w.came ≡ v.came
   pub seen : w.seen ≡ v.seen
   pub loads : w.loads ≡ v.loads
+  pub wires : length w.tokens ≡ length v.tokens
 
-kin : (end : End) (n token client : ℕ) (v : View) → IsKin v (after_step token client end n v)
-kin (Balancer b) n token client v = record { start = refl; quota = refl; entries = refl; came = refl; seen = refl; loads = refl }
-kin (Exit i) n token client v = record { start = refl; quota = refl; entries = refl; came = refl; seen = refl; loads = refl }
+pub kin : (end : End) (n token client : ℕ) (v : View) → IsKin v (after_step token client end n v)
+kin (Balancer b) n token client v = record {
+  start = refl;
+  quota = refl;
+  entries = refl;
+  came = refl;
+  seen = refl;
+  loads = refl;
+  wires = length-map-range_with_len
+      (λ u. without token (on v.tokens u) ++ last_on token client (output_wire v.start.network.table b (n % 2)) u) 0 (length v.tokens);
+}
+kin (Exit i) n token client v = record {
+  start = refl;
+  quota = refl;
+  entries = refl;
+  came = refl;
+  seen = refl;
+  loads = refl;
+  wires = length-map-range_with_len (λ u. without token (on v.tokens u) ++ []) 0 (length v.tokens);
+}
 
 pub kin-by : (end : End) (n : ℕ) (tokens : List (ℕ × ℕ)) (v : View) → IsKin v (after_steps end n tokens v)
 unfolding after_steps
-kin-by end n [] v = record { start = refl; quota = refl; entries = refl; came = refl; seen = refl; loads = refl }
+kin-by end n [] v =
+    record { start = refl; quota = refl; entries = refl; came = refl; seen = refl; loads = refl; wires = refl }
 kin-by end n (e ∷ rest) v =
     let one = kin end n e.0 e.1 v in
     let more = kin-by end (n + 1) rest (after_step e.0 e.1 end n v) in
@@ -40,6 +59,7 @@ kin-by end n (e ∷ rest) v =
       came = more.came ∙ one.came;
       seen = more.seen ∙ one.seen;
       loads = more.loads ∙ one.loads;
+      wires = more.wires ∙ one.wires;
     }
 
 -- ---- grants
@@ -156,9 +176,9 @@ outs-are entries b out q is = by (q % 2) (omega arith)
 
 -- ---- the lane
 
-module _ (old new : Inside) (wire n : ℕ) (kept : IsLane old) (no_slot : new.seat.me.1 ≡ []) where
+module _ (old new : Inside) (wire n : ℕ) (kept : IsLane old) (home : new.post.home ≡ old.post.home) where
   abbrev v : View
-  v = old.seat.me.0
+  v = old.post.view
 
   abbrev tokens : List (ℕ × ℕ)
   tokens = on v.tokens wire
@@ -167,50 +187,40 @@ module _ (old new : Inside) (wire n : ℕ) (kept : IsLane old) (no_slot : new.se
   there = ap (λ (ls : List (List (ℕ × ℕ))). on ls wire) kept.tokens
 
   -- its tokens were dealt
-  pub lane-dealt : (outs : ℕ → ℕ) (b p out0 out1 : ℕ) → new.seat.me.0 ≡ after_sweep wire (Balancer b) n v
+  pub lane-dealt : (outs : ℕ → ℕ) (b p out0 out1 : ℕ) → new.post.view ≡ after_sweep wire (Balancer b) n v
       → Deals outs p (on old.yard.lists wire) old.yard new.yard
       → IsDealt wire p out0 out1 old.yard new.yard → ((q : ℕ) → outs (q % 2) ≡ output_wire v.start.network.table b (q % 2)) → p % 2 ≡ n % 2
-      → new.grants ≡ old.grants → new.quota ≡ old.quota → new.room ≡ old.room → IsLane new
-  lane-dealt outs b p out0 out1 view deals dealt at turn grants quota room =
+      → new.grants ≡ old.grants → new.room ≡ old.room → IsLane new
+  lane-dealt outs b p out0 out1 view deals dealt at turn grants room =
       let like = kin-by (Balancer b) n tokens v in
       record {
-        no_slot = no_slot;
-        idle = ap (λ (w : View). w.loads) view ∙ like.loads ∙ kept.idle;
         tokens = dealt-tokens outs b n p tokens old.yard new.yard v kept.tokens at turn
             (subst (λ (es : List (ℕ × ℕ)). Deals outs p es old.yard new.yard) there deals)
             ∙ ap (λ (w : View). w.tokens) (sym view);
-        wires = dealt.wires ∙ kept.wires ∙ ap (λ (s : Start). length s.network.table.ends) (sym like.start)
-            ∙ ap (λ (w : View). length w.start.network.table.ends) (sym view);
         grants = ap (λ g. g.items) grants ∙ kept.grants ∙ sym (grants-kept b n tokens v) ∙ ap (λ (w : View). w.grants) (sym view);
-        quota = quota ∙ kept.quota ∙ sym like.quota ∙ ap (λ (w : View). w.quota) (sym view);
-        small = subst FitsLanes (sym like.start ∙ ap (λ (w : View). w.start) (sym view)) kept.small;
-        few = omega (arith, kept.few, dealt.tokens);
+        small = subst FitsLanes (ap (λ (h : FloorValue). h.start) (sym home)) kept.small;
+        few = omega (arith, kept.few, dealt.tokens, like.quota, ap (λ (w : View). w.quota) view);
         room = rw grants (omega (arith, kept.room, dealt.tokens));
       }
 
   -- its tokens left
   pub lane-left : (i width less : ℕ) → width ≡ v.start.network.table.width → less ≡ base v.start
-      → new.seat.me.0 ≡ after_sweep wire (Exit i) n v → Frees (on old.yard.lists wire) old.yard new.yard
+      → new.post.view ≡ after_sweep wire (Exit i) n v → Frees (on old.yard.lists wire) old.yard new.yard
       → new.grants.items ≡ old.grants.items ++ grants_out width less i n (on old.yard.lists wire)
       → vec_capacity new.grants ≡ vec_capacity old.grants
-      → new.quota ≡ old.quota → new.room ≡ old.room → IsLane new
-  lane-left i width less wide came view frees grants capacity quota room =
+      → new.room ≡ old.room → IsLane new
+  lane-left i width less wide came view frees grants capacity room =
       let like = kin-by (Exit i) n tokens v in
       let all = freed-all (on old.yard.lists wire) old.yard new.yard frees in
       let many = ap length grants ∙ length-append old.grants.items (grants_out width less i n (on old.yard.lists wire)) in
       record {
-        no_slot = no_slot;
-        idle = ap (λ (w : View). w.loads) view ∙ like.loads ∙ kept.idle;
         tokens = freed-tokens i n tokens old.yard new.yard v kept.tokens
             (subst (λ (es : List (ℕ × ℕ)). Frees es old.yard new.yard) there frees)
             ∙ ap (λ (w : View). w.tokens) (sym view);
-        wires = all.wires ∙ kept.wires ∙ ap (λ (s : Start). length s.network.table.ends) (sym like.start)
-            ∙ ap (λ (w : View). length w.start.network.table.ends) (sym view);
         grants = grants ∙ (λ x. kept.grants x ++ grants_out (wide x) (came x) i n (there x)) ∙ sym (grants-left i n tokens v)
             ∙ ap (λ (w : View). w.grants) (sym view);
-        quota = quota ∙ kept.quota ∙ sym like.quota ∙ ap (λ (w : View). w.quota) (sym view);
-        small = subst FitsLanes (sym like.start ∙ ap (λ (w : View). w.start) (sym view)) kept.small;
-        few = omega (arith, kept.few, all.tokens);
+        small = subst FitsLanes (ap (λ (h : FloorValue). h.start) (sym home)) kept.small;
+        few = omega (arith, kept.few, all.tokens, like.quota, ap (λ (w : View). w.quota) view);
         room = omega (arith, kept.room, all.tokens, many, capacity, room, grants-many width less i n (on old.yard.lists wire));
       }
 

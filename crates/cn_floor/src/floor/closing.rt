@@ -126,13 +126,14 @@ impl<'a> Floor<'a> {
             before,
             counters,
         } = self;
+        lane.lane_laws();
         let Lane {
-            seat,
+            post,
             yard,
             grants,
             ..
         } = lane;
-        let (table, stride) = counters.close(seat);
+        let (table, stride) = counters.close(post);
         let clients = clients_of(before.network(), &table, stride);
         let entered = clients - base;
         let granted = grants.len() as u64;

@@ -22,6 +22,7 @@ use super::plays::{
     EnterAllOf, EnterAllPlay, EnterOf, EnterPlay, FloorRule, JoinSeats, Portion, SplitSeat, StepOf,
     StepPlay, SweepOf, SweepPlay,
 };
+use super::post::Post;
 use crate::view::{Opening, View};
 use atomic_table::{Closed, Seat, Table};
 use cn_tables::{Counting, End};
@@ -123,53 +124,46 @@ impl Counters {
 
     /// The client comes in by the entry, in one atomic step: an add on the entry's word. The token and the client are
     /// only for the proof.
-    pub(super) fn enter<T: EnterOf>(
-        &self,
-        seat: &mut Seat<(), View>,
-        _token: Token,
-        _client: u64,
-        entry: u32,
-    )
-        requires own { (seat.old.table_id ≡ self.now.table)
-            × (seat.old.me.0.start ≡ self.now.start) }
+    pub(super) fn enter<T: EnterOf>(&self, post: &mut Post, _token: Token, _client: u64, entry: u32)
+        requires own { post.old.home ≡ self.now }
         requires coming { T.coming
             ≡ record { start = self.now.start; token = _token; client = _client; entry = entry } }
-        requires slots { (seat.old.me.1 ≡ []) × (seat.old.me.0.loads ≡ []) }
-        requires entry { (entry < self.now.start.network.table.entries)
-            × (entry < length seat.old.me.0.tokens) }
-        requires quota { 0 < seat.old.me.0.quota }
-        ensures seat { (seat.new.table_id ≡ seat.old.table_id) × (seat.new.me.1 ≡ []) }
-        ensures came { ComesIn T.coming seat.old.me.0 seat.new.me.0 }
+        requires entry { entry < self.now.start.network.table.entries }
+        requires quota { 0 < post.old.view.quota }
+        ensures home { post.new.home ≡ post.old.home }
+        ensures came { ComesIn T.coming post.old.view post.new.view }
     {
+        let place = place_of(self.stride, 1 + entry as usize);
+        post.quota -= 1;
         self.table
             .shared
-            .fetch_add::<EnterPlay<T>>(seat, place_of(self.stride, 1 + entry as usize), 1);
+            .fetch_add::<EnterPlay<T>>(&mut post.seat, place, 1);
     }
 
     /// The clients of a list come in by the entry, in one atomic step: an add of their number on the entry's word. Each
     /// one's token has the number of its place in the list, which is only for the proof.
     pub(super) fn enter_all<T: EnterAllOf>(
         &self,
-        seat: &mut Seat<(), View>,
+        post: &mut Post,
         _clients: &[u64],
         entry: u32,
         count: u64,
     )
-        requires own { (seat.old.table_id ≡ self.now.table)
-            × (seat.old.me.0.start ≡ self.now.start) }
+        requires own { post.old.home ≡ self.now }
         requires entering { T.entering
             ≡ record { start = self.now.start; clients = _clients.now; entry = entry } }
         requires count { length _clients.now ≡ count }
-        requires slots { (seat.old.me.1 ≡ []) × (seat.old.me.0.loads ≡ []) }
-        requires entry { (entry < self.now.start.network.table.entries)
-            × (entry < length seat.old.me.0.tokens) }
-        requires quota { count ≤ seat.old.me.0.quota }
-        ensures seat { (seat.new.table_id ≡ seat.old.table_id) × (seat.new.me.1 ≡ []) }
-        ensures came { AllComeIn T.entering seat.old.me.0 seat.new.me.0 }
+        requires entry { entry < self.now.start.network.table.entries }
+        requires quota { count ≤ post.old.view.quota }
+        ensures home { post.new.home ≡ post.old.home }
+        ensures came { AllComeIn T.entering post.old.view post.new.view }
     {
-        self.table
-            .shared
-            .fetch_add::<EnterAllPlay<T>>(seat, place_of(self.stride, 1 + entry as usize), count);
+        post.quota -= count;
+        self.table.shared.fetch_add::<EnterAllPlay<T>>(
+            &mut post.seat,
+            place_of(self.stride, 1 + entry as usize),
+            count,
+        );
     }
 
     /// The token goes by the end of its wire, in one atomic step: an add on the end's word, which gives its number. How
@@ -177,59 +171,55 @@ impl Counters {
     /// only for the proof.
     pub(super) fn step<T: StepOf>(
         &self,
-        seat: &mut Seat<(), View>,
+        post: &mut Post,
         _token: Token,
         _client: u64,
         _wire: u32,
         end: End,
         stride: usize,
     ) -> u64
-        requires own { (seat.old.table_id ≡ self.now.table)
-            × (seat.old.me.0.start ≡ self.now.start) }
+        requires own { post.old.home ≡ self.now }
         requires going { T.going
             ≡ record { start = self.now.start; token = _token; client = _client; wire = _wire; end = end } }
-        requires slots { (seat.old.me.1 ≡ []) × (seat.old.me.0.loads ≡ []) }
-        requires there { IsThere seat.old.me.0.tokens _token _client _wire }
-        requires wires { length seat.old.me.0.tokens ≡ length self.now.start.network.table.ends }
+        requires there { IsThere post.old.view.tokens _token _client _wire }
         requires ends { end_of self.now.start.network.table _wire ≡ end }
         requires stands { Stands self.now.start.network.table end }
         requires stride { stride ≡ self.now.start.stride }
-        ensures seat { (seat.new.table_id ≡ seat.old.table_id) × (seat.new.me.1 ≡ []) }
-        ensures went { GoesOn T.going seat.old.me.0 result seat.new.me.0 }
+        ensures home { post.new.home ≡ post.old.home }
+        ensures went { GoesOn T.going post.old.view result post.new.view }
     {
         // Opens what the words keep: how far apart they lie at most.
         let _ = &self.table;
         let place = place_of(stride, self.word_of(end));
-        self.table.shared.fetch_add::<StepPlay<T>>(seat, place, 1)
+        self.table
+            .shared
+            .fetch_add::<StepPlay<T>>(&mut post.seat, place, 1)
     }
 
     /// The tokens of a wire go by its end, in one atomic step: an add of their number on the end's word, which gives
     /// the number of the first. The wire is only for the proof.
     pub(super) fn sweep<T: SweepOf>(
         &self,
-        seat: &mut Seat<(), View>,
+        post: &mut Post,
         _wire: u32,
         end: End,
         tokens: u64,
     ) -> u64
-        requires own { (seat.old.table_id ≡ self.now.table)
-            × (seat.old.me.0.start ≡ self.now.start) }
+        requires own { post.old.home ≡ self.now }
         requires sweeping { T.sweeping
             ≡ record { start = self.now.start; wire = _wire; end = end } }
-        requires slots { (seat.old.me.1 ≡ []) × (seat.old.me.0.loads ≡ []) }
-        requires once { (token : ℕ) → times_in seat.old.me.0.tokens token ≤ 1 }
-        requires tokens { length (on seat.old.me.0.tokens _wire) ≡ tokens }
-        requires wires { length seat.old.me.0.tokens ≡ length self.now.start.network.table.ends }
+        requires once { (token : ℕ) → times_in post.old.view.tokens token ≤ 1 }
+        requires tokens { length (on post.old.view.tokens _wire) ≡ tokens }
         requires wire { _wire < length self.now.start.network.table.ends }
         requires ends { end_of self.now.start.network.table _wire ≡ end }
         requires stands { Stands self.now.start.network.table end }
-        ensures seat { (seat.new.table_id ≡ seat.old.table_id) × (seat.new.me.1 ≡ []) }
-        ensures went { AllGoOn T.sweeping seat.old.me.0 result seat.new.me.0 }
+        ensures home { post.new.home ≡ post.old.home }
+        ensures went { AllGoOn T.sweeping post.old.view result post.new.view }
     {
         let place = place_of(self.stride, self.word_of(end));
         self.table
             .shared
-            .fetch_add::<SweepPlay<T>>(seat, place, tokens)
+            .fetch_add::<SweepPlay<T>>(&mut post.seat, place, tokens)
     }
 
     /// The seat's view is cut in two. The quota is only for the proof.
@@ -258,14 +248,14 @@ impl Counters {
         self.table.shared.join_seat::<JoinSeats>(seat, other);
     }
 
-    /// The table at the end, and how far apart its words lie: they are as the view of the last seat records them.
-    pub(super) fn close(self, seat: Seat<(), View>) -> (Closed<(), Global>, usize)
-        requires own { seat.table_id ≡ self.table }
-        ensures ending { IsEnding self.start seat.me.0 (words_in result.1 (slots_items result.0.words)) }
+    /// The table at the end, and how far apart its words lie: they are as the view of the last post records them.
+    pub(super) fn close(self, post: Post) -> (Closed<(), Global>, usize)
+        requires own { post.home ≡ self }
+        ensures ending { IsEnding self.start post.view (words_in result.1 (slots_items result.0.words)) }
         ensures spaced { IsSpaced result.1 (slots_items result.0.words) }
         ensures whole { IsFull result.0.words × (slots_len result.0.slots ≡ 0) }
     {
         let stride = self.stride;
-        (self.table.close_with(seat), stride)
+        (self.table.close_with(post.seat), stride)
     }
 }

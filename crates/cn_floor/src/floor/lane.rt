@@ -5,8 +5,8 @@ ghost use Rattle.cn_spec.specs.declared.limits.TheConstants.{MOST_NAMED};
 ghost use Rattle.cn_floor.specs.Rule.{FitsLanes};
 ghost use Rattle.cn_yard.specs.Lists.{IsLowest, IsThere, next_after, first_of, on, standing, times_in, tokens_in};
 
-use crate::view::{Grant, View};
-use atomic_table::Seat;
+use super::post::Post;
+use crate::view::Grant;
 use cn_spec::limits::MOST_TOKENS;
 use cn_yard::{Token, Yard};
 use std::alloc::AllocError;
@@ -19,10 +19,9 @@ use std::marker::Model;
 /// has one of these, until it leaves. Only [`Lane::reserve`] and [`Lane::reserve_apart`] take memory.
 #[derive(Drop)]
 pub struct Lane {
-    pub(super) seat: Seat<(), View>,
+    pub(super) post: Post,
     pub(super) yard: Yard,
     pub(super) grants: Vec<Grant>,
-    pub(super) quota: u64,
     pub(super) room: u64,
 }
 
@@ -66,20 +65,13 @@ pub(super) fn make_way(
 impl Lane {
     ghost use Rattle.cn_floor.specs.Lane.{room_of, with_room, with_rooms};
 
-    /// Its seat, its grants and its quota.
-    pub(super) fn into_parts(self) -> (Seat<(), View>, Vec<Grant>, u64)
-        ensures seat { (result.0.table_id ≡ self.home.table) × (result.0.me ≡ (self.view, [])) }
-        ensures idle { self.view.loads ≡ [] }
+    /// Its post and its grants.
+    pub(super) fn into_parts(self) -> (Post, Vec<Grant>)
+        ensures post { (result.0.home ≡ self.home) × (result.0.view ≡ self.view) }
         ensures grants { result.1.items ≡ self.view.grants }
-        ensures quota { result.2 ≡ self.view.quota }
     {
-        let Lane {
-            seat,
-            grants,
-            quota,
-            ..
-        } = self;
-        (seat, grants, quota)
+        let Lane { post, grants, .. } = self;
+        (post, grants)
     }
 
     /// What holds of each lane: its yard has the tokens of its view, wire by wire, and it has a wire for each of the
@@ -101,6 +93,7 @@ impl Lane {
             → IsThere self.now.yard.lists token client wire }
     {
         self.yard.yard_laws();
+        self.post.post_laws();
     }
 
     /// Makes room for so many clients, at most [`cn_spec::limits::MOST_NAMED`]: as many can come in, and get their
@@ -167,7 +160,7 @@ impl Lane {
     pub fn quota(&self) -> u64
         ensures { result ≡ self.now.view.quota }
     {
-        self.quota
+        self.post.quota()
     }
 
     /// How many of its tokens are inside.

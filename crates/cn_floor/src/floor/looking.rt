@@ -6,7 +6,6 @@ ghost use Rattle.cn_floor.specs.Together.{HaveDistinctNames, StoodAsOne, first_a
 
 use super::Floor;
 use super::lane::Lane;
-use std::marker::Brand;
 
 impl<'a> Floor<'a> {
     /// Looks at two lanes at one moment, and gives them back, with how many clients came in since the floor began, as
@@ -26,23 +25,17 @@ impl<'a> Floor<'a> {
             × IsAnswer self.now.start other.view result.2 }
         ensures in_state { StoodAsOne self.now.start result.0.view result.1.view result.2 }
     {
-        lane.lane_laws();
-        other.lane_laws();
         let Lane {
-            seat: other_seat,
+            post,
             yard,
             grants,
-            quota,
             room,
         } = other;
-        let (other_seat, entered) = self
-            .counters
-            .look_at_both::<Brand>(&mut lane.seat, other_seat, self.base);
+        let (post, entered) = self.look_at_both_posts(&mut lane.post, post);
         let other = Lane {
-            seat: other_seat,
+            post,
             yard,
             grants,
-            quota,
             room,
         };
         (lane, other, entered)

@@ -9,11 +9,11 @@ ghost use Rattle.cn_floor.specs.Named.{IsGranted, IsNamed, WalksThrough};
 
 use super::Floor;
 use super::lane::Lane;
+use super::post::Post;
 use super::walking::Walk;
 use crate::fault::LaneFault;
 use crate::gate::{Asked, Gate, Moment, NoPause, Pause};
-use crate::view::{Grant, View};
-use atomic_table::Seat;
+use crate::view::Grant;
 use cn_balancer::output_of;
 use cn_exit::name_of;
 use cn_ledger::Client;
@@ -44,11 +44,11 @@ impl<'p, P: Pause> Walk<Grant> for One<'p, P> {
     fn walk(
         &self,
         floor: &Floor<'_>,
-        seat: &mut Seat<(), View>,
+        post: &mut Post,
         grants: &mut Vec<Grant>,
         entry: u32,
     ) -> Grant {
-        let grant = floor.grant_one(floor.network(), seat, self.client, entry, self.pause);
+        let grant = floor.grant_one(floor.network(), post, self.client, entry, self.pause);
         grants.push_reserved(grant);
         grant
     }
@@ -85,25 +85,23 @@ impl<'a> Floor<'a> {
     pub fn grant_one<P: Pause>(
         &self,
         network: &Counting,
-        seat: &mut Seat<(), View>,
+        post: &mut Post,
         client: u64,
         entry: u32,
         pause: &P,
     ) -> Grant
         requires network { network.now ≡ self.now.start.network }
-        requires own { (seat.old.table_id ≡ self.now.table)
-            × (seat.old.me.0.start ≡ self.now.start) }
-        requires slots { (seat.old.me.1 ≡ []) × (seat.old.me.0.loads ≡ []) }
-        requires wires { length seat.old.me.0.tokens ≡ length self.now.start.network.table.ends }
-        requires out { (wire : ℕ) → on seat.old.me.0.tokens wire ≡ [] }
+        requires own { post.old.home ≡ self.now }
+        requires out { (wire : ℕ) → on post.old.view.tokens wire ≡ [] }
         requires entry { entry < self.now.start.network.table.entries }
-        requires quota { 0 < seat.old.me.0.quota }
-        ensures seat { (seat.new.table_id ≡ seat.old.table_id) × (seat.new.me.1 ≡ []) }
-        ensures granted { IsGranted self.now.start client entry result seat.old.me.0 seat.new.me.0 }
-        ensures gone { seat.new.me.0.tokens ≡ replicate (length seat.old.me.0.tokens) [] }
+        requires quota { 0 < post.old.view.quota }
+        ensures home { post.new.home ≡ post.old.home }
+        ensures granted { IsGranted self.now.start client entry result post.old.view post.new.view }
+        ensures gone { post.new.view.tokens ≡ replicate (length post.old.view.tokens) [] }
     {
         self.start_laws();
-        let (exit, visit) = self.walk_through(network, seat, client, entry, pause);
+        post.post_laws();
+        let (exit, visit) = self.walk_through(network, post, client, entry, pause);
         Grant {
             client,
             exit,
@@ -118,29 +116,26 @@ impl<'a> Floor<'a> {
     fn walk_through<P: Pause>(
         &self,
         network: &Counting,
-        seat: &mut Seat<(), View>,
+        post: &mut Post,
         client: u64,
         entry: u32,
         pause: &P,
     ) -> (u32, u64)
         requires network { network.now ≡ self.now.start.network }
-        requires own { (seat.old.table_id ≡ self.now.table)
-            × (seat.old.me.0.start ≡ self.now.start) }
-        requires slots { (seat.old.me.1 ≡ []) × (seat.old.me.0.loads ≡ []) }
-        requires wires { length seat.old.me.0.tokens ≡ length self.now.start.network.table.ends }
-        requires out { (wire : ℕ) → on seat.old.me.0.tokens wire ≡ [] }
+        requires own { post.old.home ≡ self.now }
+        requires out { (wire : ℕ) → on post.old.view.tokens wire ≡ [] }
         requires entry { entry < self.now.start.network.table.entries }
-        requires quota { 0 < seat.old.me.0.quota }
-        ensures seat { (seat.new.table_id ≡ seat.old.table_id) × (seat.new.me.1 ≡ []) }
-        ensures walked { WalksThrough self.now.start client entry result.0 result.1 seat.old.me.0 seat.new.me.0 }
-        ensures gone { seat.new.me.0.tokens ≡ replicate (length seat.old.me.0.tokens) [] }
+        requires quota { 0 < post.old.view.quota }
+        ensures home { post.new.home ≡ post.old.home }
+        ensures walked { WalksThrough self.now.start client entry result.0 result.1 post.old.view post.new.view }
+        ensures gone { post.new.view.tokens ≡ replicate (length post.old.view.tokens) [] }
         ensures exit { result.0 < self.now.start.network.table.width }
     {
         let stride = self.counters.stride();
         if stride == 1 {
-            self.walk_by(network, seat, client, entry, 1, pause)
+            self.walk_by(network, post, client, entry, 1, pause)
         } else {
-            self.walk_by(network, seat, client, entry, stride, pause)
+            self.walk_by(network, post, client, entry, stride, pause)
         }
     }
 
@@ -150,36 +145,34 @@ impl<'a> Floor<'a> {
     fn walk_by<P: Pause>(
         &self,
         network: &Counting,
-        seat: &mut Seat<(), View>,
+        post: &mut Post,
         client: u64,
         entry: u32,
         stride: usize,
         pause: &P,
     ) -> (u32, u64)
         requires network { network.now ≡ self.now.start.network }
-        requires own { (seat.old.table_id ≡ self.now.table)
-            × (seat.old.me.0.start ≡ self.now.start) }
-        requires slots { (seat.old.me.1 ≡ []) × (seat.old.me.0.loads ≡ []) }
-        requires wires { length seat.old.me.0.tokens ≡ length self.now.start.network.table.ends }
-        requires out { (wire : ℕ) → on seat.old.me.0.tokens wire ≡ [] }
+        requires own { post.old.home ≡ self.now }
+        requires out { (wire : ℕ) → on post.old.view.tokens wire ≡ [] }
         requires entry { entry < self.now.start.network.table.entries }
-        requires quota { 0 < seat.old.me.0.quota }
+        requires quota { 0 < post.old.view.quota }
         requires stride { stride ≡ self.now.start.stride }
-        ensures seat { (seat.new.table_id ≡ seat.old.table_id) × (seat.new.me.1 ≡ []) }
-        ensures walked { WalksThrough self.now.start client entry result.0 result.1 seat.old.me.0 seat.new.me.0 }
-        ensures gone { seat.new.me.0.tokens ≡ replicate (length seat.old.me.0.tokens) [] }
+        ensures home { post.new.home ≡ post.old.home }
+        ensures walked { WalksThrough self.now.start client entry result.0 result.1 post.old.view post.new.view }
+        ensures gone { post.new.view.tokens ≡ replicate (length post.old.view.tokens) [] }
         ensures exit { result.0 < self.now.start.network.table.width }
     {
         self.start_laws();
+        post.post_laws();
         let token = Token::first();
         pause.before(Moment::Enter);
-        self.counters.enter::<Brand>(seat, token, client, entry);
-        let (wire, exit) = self.pass_on(network, seat, token, client, entry, stride, pause);
+        self.counters.enter::<Brand>(post, token, client, entry);
+        let (wire, exit) = self.pass_on(network, post, token, client, entry, stride, pause);
         pause.before(Moment::Leave);
         let end = End::Exit(exit);
         let visit = self
             .counters
-            .step::<Brand>(seat, token, client, wire, end, stride);
+            .step::<Brand>(post, token, client, wire, end, stride);
         (exit, visit)
     }
 
@@ -190,7 +183,7 @@ impl<'a> Floor<'a> {
     fn pass_on<P: Pause>(
         &self,
         network: &Counting,
-        seat: &mut Seat<(), View>,
+        post: &mut Post,
         token: Token,
         client: u64,
         entry: u32,
@@ -198,21 +191,19 @@ impl<'a> Floor<'a> {
         pause: &P,
     ) -> (u32, u32)
         requires network { network.now ≡ self.now.start.network }
-        requires own { (seat.old.table_id ≡ self.now.table)
-            × (seat.old.me.0.start ≡ self.now.start) }
-        requires slots { (seat.old.me.1 ≡ []) × (seat.old.me.0.loads ≡ []) }
-        requires wires { length seat.old.me.0.tokens ≡ length self.now.start.network.table.ends }
+        requires own { post.old.home ≡ self.now }
         requires entry { entry < self.now.start.network.table.entries }
-        requires alone { IsAlone seat.old.me.0.tokens token client entry }
+        requires alone { IsAlone post.old.view.tokens token client entry }
         requires stride { stride ≡ self.now.start.stride }
-        ensures seat { (seat.new.table_id ≡ seat.old.table_id) × (seat.new.me.1 ≡ []) }
-        ensures passed { OnlyPassed seat.old.me.0 seat.new.me.0 }
-        ensures alone { IsAlone seat.new.me.0.tokens token client result.0 }
+        ensures home { post.new.home ≡ post.old.home }
+        ensures passed { OnlyPassed post.old.view post.new.view }
+        ensures alone { IsAlone post.new.view.tokens token client result.0 }
         ensures by { (numbers : List ℕ)
-            × PassesOn self.now.start token client numbers entry seat.old.me.0 result.0 seat.new.me.0 }
+            × PassesOn self.now.start token client numbers entry post.old.view result.0 post.new.view }
         ensures exit { end_of self.now.start.network.table result.0 ≡ Exit result.1 }
         ensures low { result.1 < self.now.start.network.table.width }
     {
+        post.post_laws();
         let mut at = entry;
         let mut ends_at = number_of(network.end(at));
         for passed in 0..network.depth() {
@@ -220,7 +211,7 @@ impl<'a> Floor<'a> {
             let end = End::Balancer(ends_at);
             let number = self
                 .counters
-                .step::<Brand>(seat, token, client, at, end, stride);
+                .step::<Brand>(post, token, client, at, end, stride);
             at = network.entries() + 2 * ends_at + output_of(number);
             ends_at = number_of(network.end(at));
         }

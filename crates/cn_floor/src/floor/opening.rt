@@ -1,14 +1,14 @@
 //! How a floor begins.
 
-ghost use Rattle.std.specs.Prelude.{◌≡◌, ◌+◌, ◌*◌, ◌<◌, ◌≤◌, ◌↔◌, [], length, replicate, IfErr, IfOk, IfSome, IsErrOf};
+ghost use Rattle.std.specs.Prelude.{◌≡◌, ◌+◌, ◌*◌, ◌<◌, ◌≤◌, ◌↔◌, length, replicate, IfErr, IfOk, IfSome, IsErrOf};
 ghost use Rattle.cn_spec.specs.declared.limits.TheConstants.{MOST_CARRIED, MOST_CLIENTS, MOST_NAMED};
 ghost use Rattle.cn_tables.specs.Network.{IsNetwork};
 ghost use Rattle.cn_yard.specs.Lists.{empty, tokens_in};
 ghost use Rattle.cn_floor.specs.Carried.{client_count, start_after, zero_words};
 ghost use Rattle.cn_floor.specs.InsideLeftovers.{spare_in};
-ghost use Rattle.cn_floor.specs.Lane.{IsIdle, empty_lane};
+ghost use Rattle.cn_floor.specs.Lane.{IsIdle, empty_lane, empty_post};
 ghost use Rattle.cn_floor.specs.Rule.{IsCarried};
-ghost use Rattle.cn_floor.specs.Views.{base, empty_view};
+ghost use Rattle.cn_floor.specs.Views.{base};
 ghost use Rattle.cn_floor.specs.Words.{clients_in, word_count};
 ghost use Rattle.cn_spec.specs.declared.limits.TheConstants.{MOST_TAKEN};
 
@@ -17,10 +17,9 @@ use super::counters::Counters;
 use super::lane::Lane;
 use super::leftovers::Leftovers;
 use super::network_ref::NetworkRef;
+use super::post::Post;
 use super::words::Words;
 use crate::fault::OpenFault;
-use crate::view::View;
-use atomic_table::Seat;
 use cn_spec::limits::MOST_CLIENTS;
 use cn_tables::Counting;
 use cn_yard::Yard;
@@ -199,12 +198,11 @@ impl<'a> Floor<'a> {
         ensures back { IfErr result (λ back. back ≡ words.entry) }
     {
         match Floor::lay(alloc, words, quota) {
-            Ok((floor, seat)) => {
+            Ok((floor, post)) => {
                 let lane = Lane {
-                    seat,
+                    post,
                     yard,
                     grants: Vec::new(alloc),
-                    quota,
                     room: 0,
                 };
                 Ok((floor, lane))
@@ -213,17 +211,12 @@ impl<'a> Floor<'a> {
         }
     }
 
-    /// A floor that goes on from these words, and the one seat of its table, which has the whole quota. If it gets no
-    /// memory the words come back.
-    pub fn lay(
-        alloc: Global,
-        words: Words<'a>,
-        quota: u64,
-    ) -> Result<(Floor<'a>, Seat<(), View>), Words<'a>>
+    /// A floor that goes on from these words, and its one post, which has the whole quota. If it gets no memory the words
+    /// come back.
+    pub fn lay(alloc: Global, words: Words<'a>, quota: u64) -> Result<(Floor<'a>, Post), Words<'a>>
         requires few { (client_count words ≤ MOST_TAKEN) × (quota ≤ MOST_TAKEN) }
         ensures floor { IfOk result (λ r. r.0.start ≡ start_after words.entry quota) }
-        ensures seat { IfOk result (λ r. (r.1.table_id ≡ r.0.table)
-            × (r.1.me ≡ (empty_view r.0.start quota, []))) }
+        ensures post { IfOk result (λ r. r.1 ≡ empty_post r.0 quota) }
         ensures spaced { IfOk result (λ r. r.0.table.words
             ≡ words.entry.stride * word_count words.entry.network.table) }
         ensures back { IfErr result (λ back. back ≡ words.entry) }
@@ -239,6 +232,6 @@ impl<'a> Floor<'a> {
             before: words,
             counters,
         };
-        Ok((floor, seat))
+        Ok((floor, Post { seat, quota }))
     }
 }

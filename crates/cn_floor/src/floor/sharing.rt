@@ -1,6 +1,6 @@
 //! Lanes of one floor are split and joined.
 
-ghost use Rattle.std.specs.Prelude.{◌≡◌, ◌+◌, ◌-◌, ◌<◌, ◌≤◌, ◌↔◌, ◌++◌, [], length, vec_capacity, vec_len, IfErr, IfOk, IsErrOf, OnErr, OnOk};
+ghost use Rattle.std.specs.Prelude.{◌≡◌, ◌+◌, ◌-◌, ◌<◌, ◌≤◌, ◌↔◌, ◌++◌, length, vec_capacity, vec_len, IfErr, IfOk, IsErrOf, OnErr, OnOk};
 ghost use Rattle.cn_yard.specs.Lists.{tokens_in};
 ghost use Rattle.cn_floor.specs.Lane.{empty_lane};
 ghost use Rattle.cn_floor.specs.Steps.{StoodInState};
@@ -9,9 +9,7 @@ ghost use Rattle.cn_floor.specs.Views.{after_join, after_look, after_split, spli
 use super::lane::{Lane, make_way};
 use super::{Floor, yard_for};
 use crate::fault::{JoinFault, SplitFault};
-use crate::view::{Grant, View};
-use atomic_table::Seat;
-use std::marker::Brand;
+use crate::view::Grant;
 
 /// Adds grants at the end of a list that has room for them.
 fn append(to: &mut Vec<Grant>, from: &[Grant])
@@ -44,37 +42,14 @@ impl<'a> Floor<'a> {
         ensures small { IsErrOf result SplitFault.QuotaTooSmall ↔ (lane.old.view.quota < quota) }
         ensures memory { ¬ (IsErrOf result SplitFault.Memory) }
     {
-        if quota > lane.quota {
-            return Err(SplitFault::QuotaTooSmall);
-        }
+        let post = self.split_post(&mut lane.post, quota)?;
         let yard = yard_for(self.alloc, self.network());
-        let seat = self.split_seat(&mut lane.seat, quota);
-        lane.quota -= quota;
         Ok(Lane {
-            seat,
+            post,
             yard,
             grants: Vec::new(self.alloc),
-            quota,
             room: 0,
         })
-    }
-
-    /// Splits a seat off another, for a lane with this quota. Each of both then looks once.
-    pub fn split_seat(&self, seat: &mut Seat<(), View>, quota: u64) -> Seat<(), View>
-        requires own { (seat.old.table_id ≡ self.now.table)
-            × (seat.old.me.0.start ≡ self.now.start) }
-        requires slots { (seat.old.me.1 ≡ []) × (seat.old.me.0.loads ≡ []) }
-        requires quota { quota ≤ seat.old.me.0.quota }
-        ensures seats { (seat.new.table_id ≡ seat.old.table_id) × (seat.new.me.1 ≡ [])
-            × (result.table_id ≡ seat.old.table_id) × (result.me.1 ≡ []) }
-        ensures first { seat.new.me.0 ≡ after_look (after_split quota seat.old.me.0) }
-        ensures second { result.me.0 ≡ after_look (split_off quota seat.old.me.0) }
-        ensures in_states { StoodInState self.now.start seat.new.me.0 × StoodInState self.now.start result.me.0 }
-    {
-        let mut other = self.counters.split::<Brand>(seat, quota);
-        self.counters.look::<Brand>(seat);
-        self.counters.look::<Brand>(&mut other);
-        other
     }
 
     /// Splits off a lane as [`Floor::split_off`] does, and gives both.
@@ -151,10 +126,8 @@ impl<'a> Floor<'a> {
         let Ok(()) = make_way(&mut lane.grants, more, &lane.yard, lane.room) else {
             return Err(other);
         };
-        let (seat, grants, quota) = other.into_parts();
-        self.counters.join(&mut lane.seat, seat);
-        self.counters.look::<Brand>(&mut lane.seat);
-        lane.quota += quota;
+        let (post, grants) = other.into_parts();
+        self.join_post(&mut lane.post, post);
         lane.room = lane.room.saturating_sub(more);
         append(&mut lane.grants, grants.as_slice());
         Ok(())

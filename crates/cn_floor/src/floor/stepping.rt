@@ -35,10 +35,11 @@ impl<'a> Floor<'a> {
             ↔ ((entry < self.now.start.network.table.entries) × (lane.old.view.quota ≡ 0)) }
         ensures room { 0 < lane.old.room → 0 < lane.old.yard.spare → ¬ (IsErrOf result LaneFault.Memory) }
     {
+        lane.lane_laws();
         if entry >= u64::from(self.network().entries()) {
             return Err(LaneFault::NoSuchEntry);
         }
-        if lane.quota == 0 {
+        if lane.post.quota() == 0 {
             return Err(LaneFault::QuotaSpent);
         }
         let entry = entry as u32;
@@ -49,8 +50,7 @@ impl<'a> Floor<'a> {
             return Err(LaneFault::Memory);
         };
         self.counters
-            .enter::<Brand>(&mut lane.seat, token, client, entry);
-        lane.quota -= 1;
+            .enter::<Brand>(&mut lane.post, token, client, entry);
         lane.room = lane.room.saturating_sub(1);
         Ok(token)
     }
@@ -62,6 +62,7 @@ impl<'a> Floor<'a> {
         requires live { IsSome (standing lane.old.yard.lists token) }
         ensures { (client wire n : ℕ) × StepsOn lane.old lane.new token client wire n result }
     {
+        lane.lane_laws();
         let client = lane.yard.client_of(token);
         let wire = lane.yard.wire_of(token);
         let network = self.network();
@@ -69,7 +70,7 @@ impl<'a> Floor<'a> {
         let stride = self.counters.stride();
         let number = self
             .counters
-            .step::<Brand>(&mut lane.seat, token, client, wire, end, stride);
+            .step::<Brand>(&mut lane.post, token, client, wire, end, stride);
         match end {
             End::Balancer(balancer) => {
                 let wire = network.entries() + 2 * balancer + output_of(number);
@@ -109,6 +110,6 @@ impl<'a> Floor<'a> {
             ≡ record lane.old { view = after_entered self.now.start result lane.old.view } }
         ensures in_state { StoodInState self.now.start lane.new.view }
     {
-        self.counters.load_all(&mut lane.seat, self.base)
+        self.entered_by(&mut lane.post)
     }
 }

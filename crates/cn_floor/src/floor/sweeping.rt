@@ -68,7 +68,7 @@ impl<'a> Floor<'a> {
         let end = network.end(wire);
         let first = self
             .counters
-            .sweep::<Brand>(&mut lane.seat, wire, end, tokens);
+            .sweep::<Brand>(&mut lane.post, wire, end, tokens);
         match end {
             End::Balancer(balancer) => {
                 let out = network.entries() + 2 * balancer;

@@ -8,9 +8,9 @@ ghost use Rattle.cn_floor.specs.declared.view.View.{View};
 
 use super::Floor;
 use super::lane::{Lane, make_way};
+use super::post::Post;
 use crate::fault::LaneFault;
-use crate::view::{Grant, View};
-use atomic_table::Seat;
+use crate::view::Grant;
 
 /// Clients who come in by one entry and walk out, by a view with nobody inside. `A` is what they answer.
 pub trait Walk<A> {
@@ -25,28 +25,19 @@ pub trait Walk<A> {
         ensures { result ≡ many self.now };
 
     /// Lets them in by an entry and walks them out. Their grants stand last in the list, as in the view.
-    fn walk(
-        &self,
-        floor: &Floor<'_>,
-        seat: &mut Seat<(), View>,
-        grants: &mut Vec<Grant>,
-        entry: u32,
-    ) -> A
-        requires own { (seat.old.table_id ≡ floor.now.table)
-            × (seat.old.me.0.start ≡ floor.now.start) }
-        requires slots { (seat.old.me.1 ≡ []) × (seat.old.me.0.loads ≡ []) }
-        requires wires { length seat.old.me.0.tokens ≡ length floor.now.start.network.table.ends }
-        requires out { (wire : ℕ) → on seat.old.me.0.tokens wire ≡ [] }
+    fn walk(&self, floor: &Floor<'_>, post: &mut Post, grants: &mut Vec<Grant>, entry: u32) -> A
+        requires own { post.old.home ≡ floor.now }
+        requires out { (wire : ℕ) → on post.old.view.tokens wire ≡ [] }
         requires entry { entry < floor.now.start.network.table.entries }
-        requires quota { many self.now ≤ seat.old.me.0.quota }
+        requires quota { many self.now ≤ post.old.view.quota }
         requires few { many self.now < 2 ^ 62 }
-        requires granted { grants.old.items ≡ seat.old.me.0.grants }
+        requires granted { grants.old.items ≡ post.old.view.grants }
         requires room { length grants.old.items + many self.now ≤ vec_capacity grants.old }
-        ensures seat { (seat.new.table_id ≡ seat.old.table_id) × (seat.new.me.1 ≡ []) }
-        ensures left { AllLeft (many self.now) seat.old.me.0 seat.new.me.0 }
-        ensures granted { grants.new.items ≡ seat.new.me.0.grants }
+        ensures home { post.new.home ≡ post.old.home }
+        ensures left { AllLeft (many self.now) post.old.view post.new.view }
+        ensures granted { grants.new.items ≡ post.new.view.grants }
         ensures capacity { vec_capacity grants.new ≡ vec_capacity grants.old }
-        ensures walked { Walked floor.now.start self.now entry result seat.old.me.0 seat.new.me.0 };
+        ensures walked { Walked floor.now.start self.now entry result post.old.view post.new.view };
 }
 
 impl<'a> Floor<'a> {
@@ -86,8 +77,7 @@ impl<'a> Floor<'a> {
         let Ok(()) = make_way(&mut lane.grants, many, &lane.yard, lane.room) else {
             return Err(LaneFault::Memory);
         };
-        let answer = walk.walk(self, &mut lane.seat, &mut lane.grants, entry as u32);
-        lane.quota -= many;
+        let answer = walk.walk(self, &mut lane.post, &mut lane.grants, entry as u32);
         lane.room = lane.room.saturating_sub(many);
         Ok(answer)
     }

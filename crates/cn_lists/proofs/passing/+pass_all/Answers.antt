@@ -25,7 +25,7 @@ rest-fit : (n m r s : ℕ) → s + m ≡ r → n ≤ r → n - m ≤ s
 rest-fit n m r s rest fits = omega arith
 
 pub returns-then-count-eq0-clause-swept : goal.returns-then-count-eq0-clause-swept
-returns-then-count-eq0-clause-swept g t c = swept-none c.args.floor.now.start c.args.seat.now.me.0
+returns-then-count-eq0-clause-swept g t c = swept-none c.args.floor.now.start c.args.post.now.view
 
 pub returns-then-count-eq1-clause-swept : goal.returns-then-count-eq1-clause-swept
 returns-then-count-eq1-clause-swept g t c = swept-first _ c.let_by-end.ensures.together c.pass_all.ensures.swept
@@ -44,10 +44,7 @@ pass_all-requires g t c _ (notes, party) =
     let entries = c.entries.ensures.value ∙ ap (λ (n : Network). n.table.entries) c.requires.network in
     let next = (goes-by-itself go (c.requires.many ∙ c.if-count-eq1.true) _ c.output_of-output.ensures
     _ (ap (λ (e : ℕ). e + 2 * c.in-Balancer.balancer + c.output_of-output.result) entries)).0 in
-    let here = c.let_by-end.ensures.seat.0 ∙ c.requires.own.0 in
-    let of = next.of ∙ c.requires.own.1 in
-    let empty = c.let_by-end.ensures.seat.1 in
-    let loads = next.loads ∙ c.requires.slots.1 in
+    let here = c.let_by-end.ensures.home ∙ c.requires.own in
     let many = ap length next.are ∙ c.requires.many in
     let are = subst (g.P.Party.Are (g.P.Party.kept c.args.notes.now) c.args.party c.args.count) (sym next.are) c.requires.party in (
       falls-on _ _ _ _ _ _ _ c.decreases (forward go) entries next.low,
@@ -55,22 +52,7 @@ pass_all-requires g t c _ (notes, party) =
         notes,
         (
           party,
-          (
-            (here, of),
-            (
-              (empty, loads),
-              (
-                next.wires,
-                (
-                  next.low,
-                  (
-                    next.once,
-                    (c.requires.network, (many, (are, (next.above, c.requires.room)))),
-                  ),
-                ),
-              ),
-            ),
-          ),
+          (here, (next.low, (next.once, (c.requires.network, (many, (are, (next.above, c.requires.room))))))),
         ),
       ),
     )
@@ -93,12 +75,9 @@ pass_all-requires-in-Balancer g t c _ (notes, party) =
     let entries = c.entries.ensures.value ∙ ap (λ (n : Network). n.table.entries) c.requires.network in
     let next = second-next go c.output_of-output.result c.output_of-output.ensures
     _ (ap (λ (e : ℕ). e + 2 * c.in-Balancer.balancer + 1) entries) in
-    let dealt = length-dealt c.output_of-output.result (on c.args.seat.now.me.0.tokens c.args.wire)
+    let dealt = length-dealt c.output_of-output.result (on c.args.post.now.view.tokens c.args.wire)
     (is-low _ _ c.output_of-output.ensures) in
-    let here = c.let_by-end.ensures.seat.0 ∙ c.requires.own.0 in
-    let of = next.of ∙ c.requires.own.1 in
-    let empty = c.let_by-end.ensures.seat.1 in
-    let loads = next.loads ∙ c.requires.slots.1 in
+    let here = c.let_by-end.ensures.home ∙ c.requires.own in
     let many = ap length next.are ∙ dealt.1 ∙ ap (λ (n : ℕ). (n + c.output_of-output.result) / 2) c.requires.many in
     let dealt-on = (c.deal-upper.ensures _ _ c.requires.party).1 in
     let are = subst (g.P.Party.Are (g.P.Party.kept c.args.notes.now) c.deal-upper.result.1 _) (sym next.are) dealt-on in (
@@ -107,22 +86,7 @@ pass_all-requires-in-Balancer g t c _ (notes, party) =
         notes,
         (
           party,
-          (
-            (here, of),
-            (
-              (empty, loads),
-              (
-                next.wires,
-                (
-                  next.low,
-                  (
-                    next.once,
-                    (c.requires.network, (many, (are, (next.above, half-fits _ _ _ _ c.output_of-output.ensures c.requires.room)))),
-                  ),
-                ),
-              ),
-            ),
-          ),
+          (here, (next.low, (next.once, (c.requires.network, (many, (are, (next.above, half-fits _ _ _ _ c.output_of-output.ensures c.requires.room))))))),
         ),
       ),
     )
@@ -134,12 +98,9 @@ pass_all-requires-in-Balancer-2 g t c _ (notes, party) =
     let next = first-next go c.output_of-output.result c.output_of-output.ensures c.pass_all-in-Balancer.ensures.left
     c.pass_all-in-Balancer.ensures.once (ap (λ (e : ℕ). e + 2 * c.in-Balancer.balancer + 1) entries)
     _ (first-wire _ _ c.in-Balancer.balancer entries) in
-    let dealt = length-dealt c.output_of-output.result (on c.args.seat.now.me.0.tokens c.args.wire)
+    let dealt = length-dealt c.output_of-output.result (on c.args.post.now.view.tokens c.args.wire)
     (is-low _ _ c.output_of-output.ensures) in
-    let here = c.pass_all-in-Balancer.ensures.seat.0 ∙ c.let_by-end.ensures.seat.0 ∙ c.requires.own.0 in
-    let of = next.of ∙ c.requires.own.1 in
-    let empty = c.pass_all-in-Balancer.ensures.seat.1 in
-    let loads = next.loads ∙ c.requires.slots.1 in
+    let here = c.pass_all-in-Balancer.ensures.home ∙ c.let_by-end.ensures.home ∙ c.requires.own in
     let many = ap length next.are ∙ dealt.0 ∙ ap (λ (n : ℕ). n - (n + c.output_of-output.result) / 2) c.requires.many in
     let are = subst (g.P.Party.Are (g.P.Party.kept c.pass_all-in-Balancer.new.notes) c.deal-upper.result.0 _) (sym next.are)
     (rw c.pass_all-in-Balancer.ensures.kept (c.deal-upper.ensures _ _ c.requires.party).0) in (
@@ -148,22 +109,7 @@ pass_all-requires-in-Balancer-2 g t c _ (notes, party) =
         notes,
         (
           party,
-          (
-            (here, of),
-            (
-              (empty, loads),
-              (
-                next.wires,
-                (
-                  next.low,
-                  (
-                    next.once,
-                    (c.requires.network, (many, (are, (next.above, rest-fit _ _ _ _ c.pass_all-in-Balancer.ensures.room c.requires.room)))),
-                  ),
-                ),
-              ),
-            ),
-          ),
+          (here, (next.low, (next.once, (c.requires.network, (many, (are, (next.above, rest-fit _ _ _ _ c.pass_all-in-Balancer.ensures.room c.requires.room))))))),
         ),
       ),
     )

@@ -1,19 +1,23 @@
-use Rattle.std.proofs.Common.{ℕ, List, length, arith, sym, subst}
-use Rattle.cn_lists.proofs.Common.{View}
+use Rattle.std.proofs.Common.{ℕ, ◌<◌, List, length, arith, sym, ap, subst}
+use Rattle.cn_lists.proofs.Common.{FloorValue, View}
 use Rattle.cn_floor.specs.EntersAll.{ComeTogether}
 use Rattle.cn_lists.specs.Listed.{CameIn}
 use Rattle.cn_lists.proofs.CameIn.{all-came-in}
 use Rattle.cn_lists.proofs.passing.come_in.Goals as goal
 
-pub enter_list-requires-clause-entry : goal.enter_list-requires-clause-entry
-enter_list-requires-clause-entry g c =
-    (c.requires.entry, omega (arith, c.requires.wires, c.start_laws.ensures.network.formed.wires, c.requires.entry))
-
 pub returns-clause-came : goal.returns-clause-came
 returns-clause-came g c =
+    let v : View = c.args.post.now.view in
     let clients : List ℕ = g.P.Party.clients_of c.args.notes.now in
-    let step = subst (λ (xs : List ℕ). ComeTogether c.args.floor.now.start xs c.args.entry c.args.seat.now.me.0 c.enter_list.new.seat.me.0)
+    let step = subst (λ (xs : List ℕ). ComeTogether c.args.floor.now.start xs c.args.entry v c.enter_list.new.post.view)
     c.clients-clients.ensures c.enter_list.ensures.step in
-    subst (λ (w : View). CameIn c.args.seat.now.me.0 w clients c.args.entry (length clients)) (sym step.0)
-    (all-came-in c.args.seat.now.me.0 clients c.args.entry c.requires.out
-    (omega (arith, c.requires.wires, c.start_laws.ensures.network.formed.wires, c.requires.entry)) c.requires.quota)
+    let inside : c.args.entry < length v.tokens =
+    omega (
+      arith,
+      c.post_laws.ensures.wires,
+      ap (λ (h : FloorValue). length h.start.network.table.ends) c.requires.own,
+      c.start_laws.ensures.network.formed.wires,
+      c.requires.entry,
+    ) in
+    subst (λ (w : View). CameIn v w clients c.args.entry (length clients)) (sym step.0)
+    (all-came-in v clients c.args.entry c.requires.out inside c.requires.quota)

@@ -1,6 +1,6 @@
 use Rattle.std.proofs.Common.{◌≡◌, ℕ, ◌+◌, ◌==◌, List, ◌++◌, count_by, length, arith, sym, ap, ◌∙◌, subst, length-append}
 use Rattle.std.proofs.Math.Seq.{take-length}
-use Rattle.cn_lists.proofs.Common.{Grant, Network, Start, StoodInState, View, on, tokens_in}
+use Rattle.cn_lists.proofs.Common.{FloorValue, Grant, Network, Start, StoodInState, View, on, tokens_in}
 use Rattle.cn_floor.proofs.CallerLemmas.{nobody-in, nobody-there}
 use Rattle.cn_lists.specs.Listed.{by_one_entry}
 use Rattle.cn_lists.proofs.Groups.{placed-many}
@@ -16,7 +16,8 @@ pass_all-requires-clause-once g c =
     (omega (
       arith,
       came.wires,
-      c.requires.wires,
+      c.post_laws.ensures.wires,
+      ap (λ (h : FloorValue). length h.start.network.table.ends) c.requires.own,
       c.network-network.ensures.network.formed.wires,
       ap (λ (n : Network). length n.table.ends) c.network-network.ensures.value,
       ap (λ (n : Network). n.table.entries) c.network-network.ensures.value,
@@ -58,16 +59,16 @@ returns-clause-left g c =
       loads = left.loads ∙ came.loads;
       gone = nobody-stands _ _ _ clients c.args.entry k came left;
       quota = omega (arith, came.quota, left.quota);
-      grants = ap length grew ∙ length-append c.come_in-count.new.seat.me.0.grants more
+      grants = ap length grew ∙ length-append c.come_in-count.new.post.view.grants more
           ∙ (λ i. length (came.grants i) + (theirs.as_many ∙ ap length came.there ∙ placed-many clients 0 1 k) i);
     }
 
 pub returns-clause-walked : goal.returns-clause-walked
 returns-clause-walked g c =
     let start : Start = c.args.floor.now.start in
-    let v : View = c.args.seat.now.me.0 in
-    let w : View = c.come_in-count.new.seat.me.0 in
-    let x : View = c.pass_all.new.seat.me.0 in
+    let v : View = c.args.post.now.view in
+    let w : View = c.come_in-count.new.post.view in
+    let x : View = c.pass_all.new.post.view in
     let clients : List ℕ = g.P.Party.clients_of c.args.notes.now in
     let k : ℕ = length clients in
     let came = c.come_in-count.ensures.came in
@@ -95,7 +96,7 @@ returns-clause-walked g c =
       );
       enough_steps = λ some. together-deep start clients c.args.entry k v x net walk nobody out many some;
       few_steps = together-steps start clients c.args.entry k v x net walk nobody out many;
-      in_state = λ some. subst (λ (s : Start). StoodInState s x) (came.start ∙ c.requires.own.1)
+      in_state = λ some. subst (λ (s : Start). StoodInState s x) (came.start ∙ c.post_laws.ensures.start ∙ ap (λ (h : FloorValue). h.start) c.requires.own)
           (left.in_state (omega (arith, some, stood)));
     }
 

@@ -8,29 +8,21 @@ use Rattle.cn_lists.proofs.taking.take_many.Goals as goal
 
 pub invariant_of-taker : goal.invariant_of-taker
 invariant_of-taker c =
-    let was = c.taker.invariant in
-    let left = c.walk_all.ensures.left in
-    record {
-      no_slot = c.walk_all.ensures.seat.1;
-      idle = left.loads ∙ was.idle;
-      out = left.gone
-          ∙ (λ i. replicate ((ap length was.out
-          ∙ length-replicate {A = List (ℕ × ℕ)} (length c.taker.inside.seat.me.0.start.network.table.ends) []) i) [])
-          ∙ ap (λ (s : Start). replicate (length s.network.table.ends) []) (sym left.begun);
-      quota = omega (arith, was.quota, left.quota);
-    }
+    c.walk_all.ensures.left.gone
+    ∙ (λ i. replicate ((ap length c.taker.invariant
+    ∙ length-replicate {A = List (ℕ × ℕ)} (length c.taker.inside.post.home.start.network.table.ends) []) i) [])
+    ∙ ap (λ (h : FloorValue). replicate (length h.start.network.table.ends) []) (sym c.walk_all.ensures.home)
 
 pub returns-clause-ok : goal.returns-clause-ok
 returns-clause-ok c =
-    let v : View = c.taker.inside.seat.me.0 in
-    let x : View = c.walk_all.new.seat.me.0 in
+    let v : View = c.taker.inside.post.view in
+    let x : View = c.walk_all.new.post.view in
     let held : taker_of c.taker.inside ≡ c.args.taker.now = c.taker.view_is in
     let view : v ≡ c.args.taker.now.view = ap (λ (t : TakerValue). t.view) held in
     let began : c.args.floor.now.start ≡ c.args.taker.now.home.start = sym (ap (λ (h : FloorValue). h.start) c.requires.own) in
     let (more, grew, many, often) = c.walk_all.ensures.walked.grants in
     record {
-      home = (λ i. record { table = c.walk_all.ensures.seat.0 i; start = c.walk_all.ensures.left.begun i })
-          ∙ ap (λ (t : TakerValue). t.home) held;
+      home = c.walk_all.ensures.home ∙ ap (λ (t : TakerValue). t.home) held;
       walked = subst (λ (z : Start × View). HaveWalked z.0 c.args.names.now c.args.entry z.1 x) (λ i. (began i, view i))
           c.walk_all.ensures.walked;
       named = (

@@ -11,7 +11,7 @@ use Rattle.cn_floor.proofs.floor.Floor.end.Goals as goal
 pub invariant_of-closed : goal.invariant_of-closed
 invariant_of-closed c =
     let start : Start = c.self.inside.counters.start in
-    let v : View = c.lane.inside.seat.me.0 in
+    let v : View = c.lane.inside.post.view in
     let ws : List ℕ = words_in c.close-table.result.1 (slots_items c.close-table.result.0.words) in
     let e = c.close-table.ensures.ending in
     let began = c.self.invariant.began in
@@ -52,11 +52,10 @@ pub invariant_of-leftovers : goal.invariant_of-leftovers
 invariant_of-leftovers c =
     let nobody : tokens_in c.lane.inside.yard.lists ≡ 0 = search rules in
     let start : Start = c.self.inside.counters.start in
-    let about : c.lane.inside.seat.me.0.start ≡ start =
-    ap (λ (l : LaneValue). l.home.start) c.lane.view_is ∙ ap (λ (h : FloorValue). h.start) (c.requires.own ∙ sym c.self.view_is) in
+    let about : c.args.lane.home.start ≡ start = ap (λ (h : FloorValue). h.start) (c.requires.own ∙ sym c.self.view_is) in
     let before : c.self.inside.before.network ≡ start.network = ap (λ (w : WordsValue). w.network) c.self.invariant.before in
     let wires : length c.lane.inside.yard.lists ≡ length c.self.inside.before.network.table.ends =
-    c.lane.invariant.wires ∙ ap (λ (s : Start). length s.network.table.ends) about
+    ap (λ (l : LaneValue). length l.yard.lists) c.lane.view_is ∙ c.lane_laws.ensures.wires ∙ ap (λ (s : Start). length s.network.table.ends) about
     ∙ ap (λ (x : Network). length x.table.ends) (sym before) in
     all-empty c.lane.inside.yard.lists nobody ∙ (λ x. replicate (wires x) [])
 
@@ -66,7 +65,7 @@ returns-clause-leftovers c = c.self.invariant.before ∙ ap (λ (h : FloorValue)
 pub returns-then-entered-granted-clause-refused : goal.returns-then-entered-granted-clause-refused
 returns-then-entered-granted-clause-refused c =
     let start : Start = c.self.inside.counters.start in
-    let v : View = c.lane.inside.seat.me.0 in
+    let v : View = c.lane.inside.post.view in
     let ws : List ℕ = words_in c.close-table.result.1 (slots_items c.close-table.result.0.words) in
     let e = c.close-table.ensures.ending in
     let entered : ℕ = c.clients_of-clients.result - c.self.inside.base in

@@ -1,4 +1,4 @@
-use Rattle.std.proofs.Common.{ap, sym, ◌∙◌, subst, arith}
+use Rattle.std.proofs.Common.{length, ap, sym, ◌∙◌, subst, arith}
 use Rattle.cn_floor.proofs.Common.{AreLetBy, FloorValue, Network, Stands, end_of}
 use Rattle.cn_floor.proofs.floor.Floor.let_by.Goals as goal
 
@@ -9,11 +9,11 @@ returns-clause-together c = record {
   ends = ap (λ (n : Network). end_of n.table c.args.wire) (sym c.requires.network) ∙ c.end-end.ensures.at;
   stands = subst (λ (n : Network). Stands n.table c.end-end.result) c.requires.network c.end-end.ensures.there;
   once = c.requires.once;
-  wires = c.requires.wires;
-  of = c.requires.own.1;
+  wires = c.post_laws.ensures.wires ∙ ap (λ (h : FloorValue). length h.start.network.table.ends) c.requires.own;
+  of = c.post_laws.ensures.start ∙ ap (λ (h : FloorValue). h.start) c.requires.own;
   some = omega (arith, c.requires.tokens);
   above = c.requires.above;
   went = c.sweep-number.ensures.went.0;
-  by = subst (λ (h : FloorValue). AreLetBy h.start c.args.seat.now.me.0 c.sweep-number.new.seat.me.0 c.args.wire c.end-end.result
+  by = subst (λ (h : FloorValue). AreLetBy h.start c.args.post.now.view c.sweep-number.new.post.view c.args.wire c.end-end.result
       c.sweep-number.result) c.self.view_is c.sweep-number.ensures.went.1;
 }

@@ -1,5 +1,5 @@
 use Rattle.std.proofs.Common.{◌≡◌, [], length, replicate, sym, ap, ◌∙◌, subst, arith}
-use Rattle.cn_floor.proofs.Common.{LaneValue, Lists, Start, lane_of, on, tokens_in}
+use Rattle.cn_floor.proofs.Common.{FloorValue, LaneValue, Lists, lane_of, on, tokens_in}
 use Rattle.std.proofs.lemmas.List.{nil_from_length}
 use Rattle.cn_yard.proofs.CallerLemmas.{nobody-on}
 use Rattle.cn_floor.specs.Rule.{FitsLanes}
@@ -20,14 +20,10 @@ invariant_of-lane-2 g c =
     let held : lane_of c.lane.inside ≡ c.args.lane.now = c.lane.view_is in
     let nobody : tokens_in c.lane.inside.yard.lists ≡ 0 = ap (λ (l : LaneValue). tokens_in l.yard.lists) held ∙ c.requires.out in
     record {
-      no_slot = c.walk-answer.ensures.seat.1;
-      idle = left.loads ∙ was.idle;
       tokens = all-empty c.lane.inside.yard.lists nobody ∙ (λ x. replicate (length (was.tokens x)) []) ∙ sym left.gone;
-      wires = was.wires ∙ ap (λ (s : Start). length s.network.table.ends) (sym left.begun);
       grants = c.walk-answer.ensures.granted;
-      quota = omega (arith, was.quota, left.quota, c.count-many.ensures);
-      small = subst FitsLanes (sym left.begun) was.small;
-      few = omega (arith, was.few);
+      small = subst FitsLanes (ap (λ (h : FloorValue). h.start) (sym c.walk-answer.ensures.home)) was.small;
+      few = omega (arith, was.few, left.quota);
       room = omega (
         arith,
         c.in-Ok.ensures.ok,

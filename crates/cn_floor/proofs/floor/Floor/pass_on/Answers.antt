@@ -10,7 +10,7 @@ use Rattle.cn_floor.proofs.floor.Floor.pass_on.Goals as goal
 
 pub step-number-requires-clause-there : goal.step-number-requires-clause-there
 step-number-requires-clause-there g c =
-    there-alone c.loop-passed.seat.me.0.tokens c.args.token c.args.client c.loop-passed.at c.loop-passed.invariant.alone
+    there-alone c.loop-passed.post.view.tokens c.args.token c.args.client c.loop-passed.at c.loop-passed.invariant.alone
 
 -- where a wire ends of which the number was found
 found : (network at : Network) → at ≡ network → (u n : ℕ) (end : End) → end_of at.table u ≡ end → (end ≡ Balancer n) ⊎ (end ≡ Exit n)
@@ -21,7 +21,7 @@ found network at same u n end is (inr e) = inr (ap (λ (x : Network). end_of x.t
 -- before a step
 module _ (g : given.Over) (c : goal.After-step-arg-1 g) where
   there : c.loop-passed.at < length c.args.self.now.start.network.table.ends
-  there = omega (arith, c.loop-passed.invariant.alone.inside, c.loop-passed.invariant.passed.wires, c.requires.wires)
+  there = omega (arith, c.loop-passed.invariant.alone.inside, c.loop-passed.invariant.passed.wires, c.post_laws.ensures.wires, ap (λ (h : FloorValue). length h.start.network.table.ends) c.requires.own)
 
   is-network : IsNetwork c.args.self.now.start.network
   is-network = subst IsNetwork c.requires.network c.depth-passed-end.ensures.network
@@ -52,7 +52,7 @@ module _ (g : given.Over) (c : goal.After-number_of-ends_at-in-loop-passed g) wh
   start = c.args.self.now.start
 
   abbrev v : View
-  v = c.loop-passed.seat.me.0
+  v = c.loop-passed.post.view
 
   abbrev b : ℕ
   b = c.loop-passed.ends_at
@@ -61,7 +61,7 @@ module _ (g : given.Over) (c : goal.After-number_of-ends_at-in-loop-passed g) wh
   n = c.step-number.result
 
   of : v.start ≡ start
-  of = c.loop-passed.invariant.passed.start ∙ c.requires.own.1
+  of = c.loop-passed.invariant.passed.start ∙ c.post_laws.ensures.start ∙ ap (λ (h : FloorValue). h.start) c.requires.own
 
   network : start.network ≡ c.args.network.now
   network = sym c.requires.network
@@ -73,7 +73,8 @@ module _ (g : given.Over) (c : goal.After-number_of-ends_at-in-loop-passed g) wh
   formed = (is-network g before-step).formed
 
   wires : length v.tokens ≡ length start.network.table.ends
-  wires = c.loop-passed.invariant.passed.wires ∙ c.requires.wires
+  wires = c.loop-passed.invariant.passed.wires ∙ c.post_laws.ensures.wires
+      ∙ ap (λ (h : FloorValue). length h.start.network.table.ends) c.requires.own
 
   to : c.entries.result + 2 * b + c.output_of.result ≡ output_wire v.start.network.table b (n % 2)
   to = omega (
@@ -84,16 +85,16 @@ module _ (g : given.Over) (c : goal.After-number_of-ends_at-in-loop-passed g) wh
     ap (λ (s : Start). s.network.table.entries) of,
   )
 
-  went : c.step-number.new.seat.me.0 ≡ after_step c.args.token c.args.client (Balancer b) n v
+  went : c.step-number.new.post.view ≡ after_step c.args.token c.args.client (Balancer b) n v
   went = c.step-number.ensures.went.0
 
-  alone : IsAlone c.step-number.new.seat.me.0.tokens c.args.token c.args.client (c.entries.result + 2 * b + c.output_of.result)
+  alone : IsAlone c.step-number.new.post.view.tokens c.args.token c.args.client (c.entries.result + 2 * b + c.output_of.result)
   alone =
       subst (λ (w : View). IsAlone w.tokens c.args.token c.args.client (c.entries.result + 2 * b + c.output_of.result)) (sym went)
       (subst (λ (u : ℕ). IsAlone (after_step c.args.token c.args.client (Balancer b) n v).tokens c.args.token c.args.client u) (sym to)
       (alone-on start formed v of wires c.args.token c.args.client c.loop-passed.at b n c.loop-passed.invariant.alone (ends g before-step)))
 
-  passed : OnlyPassed v c.step-number.new.seat.me.0
+  passed : OnlyPassed v c.step-number.new.post.view
   passed =
       subst (λ (w : View). OnlyPassed v w) (sym went)
       (passed-on start formed v of wires c.args.token c.args.client c.loop-passed.at b n c.loop-passed.invariant.alone (ends g before-step))
@@ -107,12 +108,12 @@ module _ (g : given.Over) (c : goal.After-number_of-ends_at-in-loop-passed g) wh
   onto : output_wire start.network.table b (n % 2) ≡ c.entries.result + 2 * b + c.output_of.result
   onto = sym (to ∙ ap (λ (s : Start). output_wire s.network.table b (n % 2)) of)
 
-  further-by : (numbers : List ℕ) × PassesOn start c.args.token c.args.client numbers c.args.entry c.args.seat.now.me.0
-      (c.entries.result + 2 * b + c.output_of.result) c.step-number.new.seat.me.0
+  further-by : (numbers : List ℕ) × PassesOn start c.args.token c.args.client numbers c.args.entry c.args.post.now.view
+      (c.entries.result + 2 * b + c.output_of.result) c.step-number.new.post.view
   further-by =
       let (ns, so) = c.loop-passed.invariant.by in (
         ns ++ n ∷ [],
-        subst (λ (z : ℕ × View). PassesOn start c.args.token c.args.client (ns ++ n ∷ []) c.args.entry c.args.seat.now.me.0 z.0 z.1)
+        subst (λ (z : ℕ × View). PassesOn start c.args.token c.args.client (ns ++ n ∷ []) c.args.entry c.args.post.now.view z.0 z.1)
             (λ i. (onto i, sym went i))
             (passes-more start c.args.token c.args.client ns c.args.entry _ c.loop-passed.at v b n so (ends g before-step) let-by),
       )
@@ -120,13 +121,12 @@ module _ (g : given.Over) (c : goal.After-number_of-ends_at-in-loop-passed g) wh
 pub loop-passed-init : goal.loop-passed-init
 unfolding PassesOn
 loop-passed-init g c = record {
-  table = refl;
-  no_slot = c.requires.slots.0;
+  home = refl;
   passed = record { start = refl; quota = refl; entries = refl; came = refl; wires = refl; grants = refl; seen = refl; loads = refl };
   alone = c.requires.alone;
   deep = entries-first c.args.self.now.start.network
       (subst IsNetwork c.requires.network c.depth-passed-end.ensures.network) c.args.entry
-      (omega (arith, c.requires.alone.inside, c.requires.wires)) c.requires.entry;
+      (omega (arith, c.requires.alone.inside, c.post_laws.ensures.wires, ap (λ (h : FloorValue). length h.start.network.table.ends) c.requires.own)) c.requires.entry;
   end = found c.args.self.now.start.network c.args.network.now c.requires.network c.args.entry
       c.number_of-ends_at.result c.end.result c.end.ensures.at c.number_of-ends_at.ensures;
   by = ([], (refl, refl));
@@ -134,8 +134,7 @@ loop-passed-init g c = record {
 
 pub loop-passed-preserved : goal.loop-passed-preserved
 loop-passed-preserved g c = record {
-  table = c.step-number.ensures.seat.0 ∙ c.loop-passed.invariant.table;
-  no_slot = c.step-number.ensures.seat.1;
+  home = c.step-number.ensures.home ∙ c.loop-passed.invariant.home;
   passed = passed-more _ _ _ c.loop-passed.invariant.passed (passed g c);
   alone = alone g c;
   deep = subst (LiesAt c.args.self.now.start.network (c.loop-passed.passed + 1)) (onto g c)
@@ -155,7 +154,7 @@ module _ (g : given.Over) (c : goal.After-loop-passed g) where
   at-end = subst IsNetwork c.requires.network c.depth-passed-end.ensures.network
 
   inside : c.loop-passed.at < length c.args.self.now.start.network.table.ends
-  inside = omega (arith, c.loop-passed.invariant.alone.inside, c.loop-passed.invariant.passed.wires, c.requires.wires)
+  inside = omega (arith, c.loop-passed.invariant.alone.inside, c.loop-passed.invariant.passed.wires, c.post_laws.ensures.wires, ap (λ (h : FloorValue). length h.start.network.table.ends) c.requires.own)
 
   last : end_of c.args.self.now.start.network.table c.loop-passed.at ≡ Exit c.loop-passed.ends_at
   last =

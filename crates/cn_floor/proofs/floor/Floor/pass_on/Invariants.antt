@@ -1,4 +1,4 @@
-use Rattle.std.proofs.Common.{◌≡◌, ℕ, List, []}
+use Rattle.std.proofs.Common.{◌≡◌, ℕ, List}
 use Rattle.cn_floor.proofs.Common.{IsAlone}
 use Rattle.cn_floor.specs.Alone.{OnlyPassed, PassesOn}
 use Rattle.cn_floor.proofs.InLane.Depths.{EndsAt, LiesAt}
@@ -10,11 +10,10 @@ ghosts-step g a = record { going = record { start = a.self.now.start; token = a.
 -- so far it passed a balancer by each round, and stands on a wire so deep
 abbrev pub invariant-loop-passed : goal.invariant-loop-passed
 invariant-loop-passed g l = record {
-  table : l.seat.table_id ≡ l.initial.seat.table_id;
-  no_slot : l.seat.me.1 ≡ [];
-  passed : OnlyPassed l.initial.seat.me.0 l.seat.me.0;
-  alone : IsAlone l.seat.me.0.tokens l.token l.client l.at;
+  home : l.post.home ≡ l.initial.post.home;
+  passed : OnlyPassed l.initial.post.view l.post.view;
+  alone : IsAlone l.post.view.tokens l.token l.client l.at;
   deep : LiesAt l.self.start.network l.passed l.at;
   end : EndsAt l.self.start.network l.at l.ends_at;
-  by : (numbers : List ℕ) × PassesOn l.self.start l.token l.client numbers l.entry l.initial.seat.me.0 l.at l.seat.me.0;
+  by : (numbers : List ℕ) × PassesOn l.self.start l.token l.client numbers l.entry l.initial.post.view l.at l.post.view;
 }

@@ -18,64 +18,64 @@ step-number-requires-clause-there c =
 
 pub invariant_of-lane : goal.invariant_of-lane
 invariant_of-lane c =
-    let v = c.lane.inside.seat.me.0 in
+    let v = c.lane.inside.post.view in
     let b : ℕ = c.in-Balancer.balancer in
     let n : ℕ = c.step-number.result in
     let network : v.start.network ≡ c.network-network.result.now =
-    ap (λ (l : LaneValue). l.home.start.network) c.lane.view_is ∙ ap (λ (h : FloorValue). h.start.network) c.requires.own
+    ap (λ (l : LaneValue). l.view.start.network) c.lane.view_is ∙ ap (λ (s : Start). s.network) c.lane_laws.ensures.start ∙ ap (λ (h : FloorValue). h.start.network) c.requires.own
     ∙ sym c.network-network.ensures.value in
     let entries : c.entries.result ≡ v.start.network.table.entries =
     c.entries.ensures.value ∙ sym (ap (λ (x : Network). x.table.entries) network) in
-    lane-on c.lane.inside _ c.args.token c.client_of-client.result c.lane.invariant c.step-number.ensures.seat.1 b n
+    lane-on c.lane.inside _ c.args.token c.client_of-client.result c.lane.invariant c.step-number.ensures.home b n
     (c.entries.result + 2 * b + c.output_of.result)
     (omega (arith, c.output_of.ensures))
     (c.step-number.ensures.went.0 ∙ ap (λ (e : End). after_step c.args.token c.client_of-client.result e n v) c.in-Balancer.is)
     (c.move_to.ensures _ c.client_of-client.result c.client_of-client.ensures.1.found)
-    refl refl refl
+    refl refl
 
 pub invariant_of-lane-in-Exit : goal.invariant_of-lane-in-Exit
 invariant_of-lane-in-Exit c =
-    let v = c.lane.inside.seat.me.0 in
+    let v = c.lane.inside.post.view in
     let i : ℕ = c.in-Exit.exit in
     let n : ℕ = c.step-number.result in
     let begun : v.start ≡ c.self.inside.counters.start =
-    ap (λ (l : LaneValue). l.home.start) c.lane.view_is ∙ ap (λ (h : FloorValue). h.start) c.requires.own
+    ap (λ (l : LaneValue). l.view.start) c.lane.view_is ∙ c.lane_laws.ensures.start ∙ ap (λ (h : FloorValue). h.start) c.requires.own
     ∙ sym (ap (λ (h : FloorValue). h.start) c.self.view_is) in
     let network : v.start.network ≡ c.network-network.result.now =
-    ap (λ (l : LaneValue). l.home.start.network) c.lane.view_is ∙ ap (λ (h : FloorValue). h.start.network) c.requires.own
+    ap (λ (l : LaneValue). l.view.start.network) c.lane.view_is ∙ ap (λ (s : Start). s.network) c.lane_laws.ensures.start ∙ ap (λ (h : FloorValue). h.start.network) c.requires.own
     ∙ sym c.network-network.ensures.value in
     let width : c.width.result ≡ v.start.network.table.width = c.width.ensures.value ∙ sym (ap (λ (x : Network). x.table.width) network) in
     let base_is : c.self.inside.base ≡ base v.start = c.self.invariant.base ∙ sym (ap (λ (s : Start). base s) begun) in
     let name : c.name_of.result - c.self.inside.base ≡ name_of v.start.network.table.width i n - base v.start =
     (λ x. c.name_of.ensures x - base_is x) ∙ ap (λ (w : ℕ). name_of w i n - base v.start) width in
-    lane-out c.lane.inside _ c.args.token c.client_of-client.result c.lane.invariant c.step-number.ensures.seat.1 i n
+    lane-out c.lane.inside _ c.args.token c.client_of-client.result c.lane.invariant c.step-number.ensures.home i n
     (c.name_of.result - c.self.inside.base) name
     (c.step-number.ensures.went.0 ∙ ap (λ (e : End). after_step c.args.token c.client_of-client.result e n v) c.in-Exit.is)
-    c.release.ensures.released c.push_reserved.ensures.items c.push_reserved.ensures.capacity refl refl
+    c.release.ensures.released c.push_reserved.ensures.items c.push_reserved.ensures.capacity refl
 
 pub returns-in-Exit : goal.returns-in-Exit
 returns-in-Exit c =
-    let v : View = c.lane.inside.seat.me.0 in
-    let w : View = c.step-number.new.seat.me.0 in
+    let v : View = c.lane.inside.post.view in
+    let w : View = c.step-number.new.post.view in
     let token = c.args.token in
     let client : ℕ = c.client_of-client.result in
     let wire : ℕ = c.wire_of-wire.result in
     let i : ℕ = c.in-Exit.exit in
     let n : ℕ = c.step-number.result in
-    let begun : v.start ≡ c.self.inside.counters.start =
+    let begun : c.lane.inside.post.home.start ≡ c.self.inside.counters.start =
     ap (λ (l : LaneValue). l.home.start) c.lane.view_is ∙ ap (λ (h : FloorValue). h.start) c.requires.own
     ∙ sym (ap (λ (h : FloorValue). h.start) c.self.view_is) in
-    let started : c.self.inside.counters.start ≡ v.start = sym begun in
-    let network : v.start.network ≡ c.network-network.result.now =
+    let started : c.self.inside.counters.start ≡ c.lane.inside.post.home.start = sym begun in
+    let network : c.lane.inside.post.home.start.network ≡ c.network-network.result.now =
     ap (λ (l : LaneValue). l.home.start.network) c.lane.view_is ∙ ap (λ (h : FloorValue). h.start.network) c.requires.own
     ∙ sym c.network-network.ensures.value in
-    let at : end_of v.start.network.table wire ≡ c.end-end.result =
+    let at : end_of c.lane.inside.post.home.start.network.table wire ≡ c.end-end.result =
     ap (λ (x : Network). end_of x.table wire) network ∙ c.end-end.ensures.at in
-    let out : end_of v.start.network.table wire ≡ Exit i = at ∙ c.in-Exit.is in
-    let width : c.width.result ≡ v.start.network.table.width = c.width.ensures.value ∙ sym (ap (λ (x : Network). x.table.width) network) in
-    let base_is : c.self.inside.base ≡ base v.start = c.self.invariant.base ∙ sym (ap (λ (s : Start). base s) begun) in
-    let name : c.name_of.result - c.self.inside.base ≡ name_of v.start.network.table.width i n - base v.start =
-    (λ x. c.name_of.ensures x - base_is x) ∙ ap (λ (k : ℕ). name_of k i n - base v.start) width in
+    let out : end_of c.lane.inside.post.home.start.network.table wire ≡ Exit i = at ∙ c.in-Exit.is in
+    let width : c.width.result ≡ c.lane.inside.post.home.start.network.table.width = c.width.ensures.value ∙ sym (ap (λ (x : Network). x.table.width) network) in
+    let base_is : c.self.inside.base ≡ base c.lane.inside.post.home.start = c.self.invariant.base ∙ sym (ap (λ (s : Start). base s) begun) in
+    let name : c.name_of.result - c.self.inside.base ≡ name_of c.lane.inside.post.home.start.network.table.width i n - base c.lane.inside.post.home.start =
+    (λ x. c.name_of.ensures x - base_is x) ∙ ap (λ (k : ℕ). name_of k i n - base c.lane.inside.post.home.start) width in
     let went : w ≡ after_step token client (Exit i) n v =
     c.step-number.ensures.went.0 ∙ ap (λ (e : End). after_step token client e n v) c.in-Exit.is in
     let same = there-alike c.lane.inside.yard.lists token client _ _ wire c.client_of-client.ensures.1 c.wire_of-wire.ensures.1 in
@@ -85,32 +85,32 @@ returns-in-Exit c =
       wire,
       n,
       steps-on (lane_of c.lane.inside) _ token client wire n _ (Exit i) out stands
-          (λ x. record { table = c.step-number.ensures.seat.0 x; start = (went x).start }) went c.release.ensures.released refl
+          c.step-number.ensures.home went c.release.ensures.released refl
           (ap (λ (k : ℕ). Out i n k) name)
-          (subst (λ (e : End). IsLetBy v.start v w client e n) c.in-Exit.is
+          (subst (λ (e : End). IsLetBy c.lane.inside.post.home.start v w client e n) c.in-Exit.is
           (subst (λ (s : Start). IsLetBy s v w client c.end-end.result n) started c.step-number.ensures.went.1)),
     )
 
 pub returns-in-Balancer : goal.returns-in-Balancer
 returns-in-Balancer c =
-    let v : View = c.lane.inside.seat.me.0 in
-    let w : View = c.step-number.new.seat.me.0 in
+    let v : View = c.lane.inside.post.view in
+    let w : View = c.step-number.new.post.view in
     let token = c.args.token in
     let client : ℕ = c.client_of-client.result in
     let wire : ℕ = c.wire_of-wire.result in
     let b : ℕ = c.in-Balancer.balancer in
     let n : ℕ = c.step-number.result in
-    let begun : v.start ≡ c.self.inside.counters.start =
+    let begun : c.lane.inside.post.home.start ≡ c.self.inside.counters.start =
     ap (λ (l : LaneValue). l.home.start) c.lane.view_is ∙ ap (λ (h : FloorValue). h.start) c.requires.own
     ∙ sym (ap (λ (h : FloorValue). h.start) c.self.view_is) in
-    let network : v.start.network ≡ c.network-network.result.now =
+    let network : c.lane.inside.post.home.start.network ≡ c.network-network.result.now =
     ap (λ (l : LaneValue). l.home.start.network) c.lane.view_is ∙ ap (λ (h : FloorValue). h.start.network) c.requires.own
     ∙ sym c.network-network.ensures.value in
-    let on : end_of v.start.network.table wire ≡ Balancer b =
+    let on : end_of c.lane.inside.post.home.start.network.table wire ≡ Balancer b =
     ap (λ (x : Network). end_of x.table wire) network ∙ c.end-end.ensures.at ∙ c.in-Balancer.is in
-    let entries : c.entries.result ≡ v.start.network.table.entries =
+    let entries : c.entries.result ≡ c.lane.inside.post.home.start.network.table.entries =
     c.entries.ensures.value ∙ sym (ap (λ (x : Network). x.table.entries) network) in
-    let to : c.entries.result + 2 * b + c.output_of.result ≡ output_wire v.start.network.table b (n % 2) =
+    let to : c.entries.result + 2 * b + c.output_of.result ≡ output_wire c.lane.inside.post.home.start.network.table b (n % 2) =
     omega (arith, c.output_of.ensures) in
     let went : w ≡ after_step token client (Balancer b) n v =
     c.step-number.ensures.went.0 ∙ ap (λ (e : End). after_step token client e n v) c.in-Balancer.is in
@@ -121,11 +121,11 @@ returns-in-Balancer c =
       wire,
       n,
       steps-on (lane_of c.lane.inside) _ token client wire n _ (Balancer b) on stands
-          (λ x. record { table = c.step-number.ensures.seat.0 x; start = (went x).start }) went
+          c.step-number.ensures.home went
           (subst (λ (u : ℕ). Moves c.lane.inside.yard c.move_to.new.self token client u) to
           (c.move_to.ensures _ client c.client_of-client.ensures.1.found)) refl
           (ap (λ (u : ℕ). On b n u) to)
-          (subst (λ (e : End). IsLetBy v.start v w client e n) c.in-Balancer.is
+          (subst (λ (e : End). IsLetBy c.lane.inside.post.home.start v w client e n) c.in-Balancer.is
           (subst (λ (s : Start). IsLetBy s v w client c.end-end.result n) (sym begun) c.step-number.ensures.went.1)),
     )
 

@@ -2,7 +2,7 @@ use Rattle.std.proofs.Common.{◌≡◌, ℕ, ◌+◌, ◌*◌, ◌%◌, ◌<◌
 use Rattle.cn_floor.proofs.Common.{AreLetBy, Balancer, End, Exit, FloorValue, LaneValue, LeadsOn, Lists, Network, Stands, Start, View, after_sweep, base, end_of, lane_of, name_of, on, output_wire, sum-below-part, times_in}
 use Rattle.cn_yard.specs.Deals.{IsDealt, out_of}
 use Rattle.cn_floor.specs.declared.view.Sweep.TheVariants.{On, Out}
-use Rattle.cn_floor.proofs.InLane.Swept.{cleared, kin-by, lane-dealt, lane-left, outs-are, some-inside, sweeps-on}
+use Rattle.cn_floor.proofs.InLane.Swept.{cleared, lane-dealt, lane-left, outs-are, some-inside, sweeps-on}
 use Rattle.cn_floor.specs.Rule.{FitsLanes}
 use Rattle.cn_floor.proofs.InLane.Named.{name-small}
 use Rattle.cn_floor.proofs.floor.Floor.sweep.Goals as goal
@@ -13,7 +13,7 @@ deal-requires-clause-distinct c =
     let network : Network = c.network-network.result.now in
     let inside : c.args.wire < length lists = some-inside lists c.args.wire (rw (← c.lane.view_is) at c.requires.some) in
     let ends : length lists ≡ length network.table.ends =
-    c.lane.invariant.wires ∙ ap (λ (l : LaneValue). length l.home.start.network.table.ends) c.lane.view_is
+    ap (λ (l : LaneValue). length l.yard.lists) c.lane.view_is ∙ c.lane_laws.ensures.wires
     ∙ ap (λ (h : FloorValue). length h.start.network.table.ends) c.requires.own
     ∙ ap (λ (x : Network). length x.table.ends) (sym c.network-network.ensures.value) in
     let forward : c.args.wire < network.table.entries + 2 * c.in-Balancer.balancer =
@@ -44,11 +44,11 @@ leave_all-requires-clause-high c =
     ∙ sym (ap (λ (h : FloorValue). h.start) c.self.view_is)) c.lane.invariant.small in
     let stands : i < start.network.table.width =
     subst (λ (x : Network × End). Stands x.0.table x.1) (λ k. (network k, c.in-Exit.is k)) c.end-end.ensures.there in
-    let many : length (on c.lane.inside.yard.lists c.args.wire) ≡ length (on c.lane.inside.seat.me.0.tokens c.args.wire) =
+    let many : length (on c.lane.inside.yard.lists c.args.wire) ≡ length (on c.lane.inside.post.view.tokens c.args.wire) =
     ap (λ (ls : Lists). length (on ls c.args.wire)) c.lane.invariant.tokens in
     omega (
       arith,
-      name-small start i (c.sweep-first.result + length (on c.lane.inside.seat.me.0.tokens c.args.wire)) c.self.invariant.began small stands
+      name-small start i (c.sweep-first.result + length (on c.lane.inside.post.view.tokens c.args.wire)) c.self.invariant.began small stands
           c.sweep-first.ensures.went.1.few,
       ap (λ (k : ℕ). name_of start.network.table.width i (c.sweep-first.result + k)) many,
       ap (λ (k : ℕ). name_of k i (c.sweep-first.result + length (on c.lane.inside.yard.lists c.args.wire))) width,
@@ -73,98 +73,94 @@ leave_all-requires-clause-room c =
 
 pub invariant_of-lane : goal.invariant_of-lane
 invariant_of-lane c =
-    let v : View = c.lane.inside.seat.me.0 in
+    let v : View = c.lane.inside.post.view in
     let n : ℕ = c.sweep-first.result in
     let network : v.start.network ≡ c.network-network.result.now =
-    ap (λ (l : LaneValue). l.home.start.network) c.lane.view_is ∙ ap (λ (h : FloorValue). h.start.network) c.requires.own
+    ap (λ (l : LaneValue). l.view.start.network) c.lane.view_is ∙ ap (λ (s : Start). s.network) c.lane_laws.ensures.start ∙ ap (λ (h : FloorValue). h.start.network) c.requires.own
     ∙ sym c.network-network.ensures.value in
     let b : ℕ = c.in-Balancer.balancer in
     let out : ℕ = c.entries.result + 2 * b in
     let entries : c.entries.result ≡ v.start.network.table.entries =
     c.entries.ensures.value ∙ sym (ap (λ (x : Network). x.table.entries) network) in
-    let went : c.sweep-first.new.seat.me.0 ≡ after_sweep c.args.wire (Balancer b) n v =
+    let went : c.sweep-first.new.post.view ≡ after_sweep c.args.wire (Balancer b) n v =
     c.sweep-first.ensures.went.0 ∙ ap (λ (e : End). after_sweep c.args.wire e n v) c.in-Balancer.is in
-    lane-dealt c.lane.inside _ c.args.wire n c.lane.invariant c.sweep-first.ensures.seat.1 (out_of out (out + 1)) b c.output_of.result out
+    lane-dealt c.lane.inside _ c.args.wire n c.lane.invariant c.sweep-first.ensures.home (out_of out (out + 1)) b c.output_of.result out
     (out + 1) went
     c.deal.ensures.moves c.deal.ensures.dealt (λ q. outs-are v.start.network.table.entries b out q (omega (arith, entries)))
-    (omega (arith, c.output_of.ensures)) refl refl refl
+    (omega (arith, c.output_of.ensures)) refl refl
 
 pub invariant_of-lane-in-Exit : goal.invariant_of-lane-in-Exit
 invariant_of-lane-in-Exit c =
-    let v : View = c.lane.inside.seat.me.0 in
+    let v : View = c.lane.inside.post.view in
     let n : ℕ = c.sweep-first.result in
     let begun : v.start ≡ c.self.inside.counters.start =
-    ap (λ (l : LaneValue). l.home.start) c.lane.view_is ∙ ap (λ (h : FloorValue). h.start) c.requires.own
+    ap (λ (l : LaneValue). l.view.start) c.lane.view_is ∙ c.lane_laws.ensures.start ∙ ap (λ (h : FloorValue). h.start) c.requires.own
     ∙ sym (ap (λ (h : FloorValue). h.start) c.self.view_is) in
     let network : v.start.network ≡ c.network-network.result.now =
-    ap (λ (l : LaneValue). l.home.start.network) c.lane.view_is ∙ ap (λ (h : FloorValue). h.start.network) c.requires.own
+    ap (λ (l : LaneValue). l.view.start.network) c.lane.view_is ∙ ap (λ (s : Start). s.network) c.lane_laws.ensures.start ∙ ap (λ (h : FloorValue). h.start.network) c.requires.own
     ∙ sym c.network-network.ensures.value in
     let i : ℕ = c.in-Exit.exit in
     let width : c.width-width.result ≡ v.start.network.table.width =
     c.width-width.ensures.value ∙ sym (ap (λ (x : Network). x.table.width) network) in
     let base_is : c.self.inside.base ≡ base v.start = c.self.invariant.base ∙ sym (ap (λ (s : Start). base s) begun) in
-    let went : c.sweep-first.new.seat.me.0 ≡ after_sweep c.args.wire (Exit i) n v =
+    let went : c.sweep-first.new.post.view ≡ after_sweep c.args.wire (Exit i) n v =
     c.sweep-first.ensures.went.0 ∙ ap (λ (e : End). after_sweep c.args.wire e n v) c.in-Exit.is in
-    lane-left c.lane.inside _ c.args.wire n c.lane.invariant c.sweep-first.ensures.seat.1 i c.width-width.result c.self.inside.base width
+    lane-left c.lane.inside _ c.args.wire n c.lane.invariant c.sweep-first.ensures.home i c.width-width.result c.self.inside.base width
     base_is went
-    c.leave_all.ensures.freed c.leave_all.ensures.granted c.leave_all.ensures.capacity refl refl
+    c.leave_all.ensures.freed c.leave_all.ensures.granted c.leave_all.ensures.capacity refl
 
 pub returns-in-Balancer : goal.returns-in-Balancer
 returns-in-Balancer c =
-    let v : View = c.lane.inside.seat.me.0 in
+    let v : View = c.lane.inside.post.view in
     let n : ℕ = c.sweep-first.result in
-    let begun : v.start ≡ c.self.inside.counters.start =
+    let begun : c.lane.inside.post.home.start ≡ c.self.inside.counters.start =
     ap (λ (l : LaneValue). l.home.start) c.lane.view_is ∙ ap (λ (h : FloorValue). h.start) c.requires.own
     ∙ sym (ap (λ (h : FloorValue). h.start) c.self.view_is) in
-    let network : v.start.network ≡ c.network-network.result.now =
+    let network : c.lane.inside.post.home.start.network ≡ c.network-network.result.now =
     ap (λ (l : LaneValue). l.home.start.network) c.lane.view_is ∙ ap (λ (h : FloorValue). h.start.network) c.requires.own
     ∙ sym c.network-network.ensures.value in
     let b : ℕ = c.in-Balancer.balancer in
     let out : ℕ = c.entries.result + 2 * b in
-    let entries : c.entries.result ≡ v.start.network.table.entries =
+    let entries : c.entries.result ≡ c.lane.inside.post.home.start.network.table.entries =
     c.entries.ensures.value ∙ sym (ap (λ (x : Network). x.table.entries) network) in
-    let went : c.sweep-first.new.seat.me.0 ≡ after_sweep c.args.wire (Balancer b) n v =
+    let went : c.sweep-first.new.post.view ≡ after_sweep c.args.wire (Balancer b) n v =
     c.sweep-first.ensures.went.0 ∙ ap (λ (e : End). after_sweep c.args.wire e n v) c.in-Balancer.is in
-    let at : end_of v.start.network.table c.args.wire ≡ Balancer b =
+    let at : end_of c.lane.inside.post.home.start.network.table c.args.wire ≡ Balancer b =
     ap (λ (x : Network). end_of x.table c.args.wire) network ∙ c.end-end.ensures.at ∙ c.in-Balancer.is in
-    let same : c.sweep-first.new.seat.me.0.start ≡ v.start =
-    ap (λ (w : View). w.start) went ∙ (kin-by (Balancer b) n (on v.tokens c.args.wire) v).start in
-    let first : out ≡ output_wire v.start.network.table b 0 = omega (arith, entries) in
-    let second : out + 1 ≡ output_wire v.start.network.table b 1 = omega (arith, entries) in
-    let dealt : IsDealt c.args.wire (n % 2) (output_wire v.start.network.table b 0) (output_wire v.start.network.table b 1)
+    let first : out ≡ output_wire c.lane.inside.post.home.start.network.table b 0 = omega (arith, entries) in
+    let second : out + 1 ≡ output_wire c.lane.inside.post.home.start.network.table b 1 = omega (arith, entries) in
+    let dealt : IsDealt c.args.wire (n % 2) (output_wire c.lane.inside.post.home.start.network.table b 0) (output_wire c.lane.inside.post.home.start.network.table b 1)
     c.lane.inside.yard c.deal.new.self =
     rw (← first, ← second, ← c.output_of.ensures) c.deal.ensures.dealt in
     let many : c.from-tokens.result ≡ length (on c.lane.inside.yard.lists c.args.wire) = c.from-tokens.ensures ∙ c.count.ensures in
     rw (← c.lane.view_is) (
       n,
       sweeps-on (lane_of c.lane.inside) _ c.args.wire n _ (Balancer b) at
-          (λ x. record { table = c.sweep-first.ensures.seat.0 x; start = same x }) went dealt refl
+          c.sweep-first.ensures.home went dealt refl
           (ap (λ (k : ℕ). On b n k) many)
-          (subst (λ (e : End). AreLetBy v.start v c.sweep-first.new.seat.me.0 c.args.wire e n) c.in-Balancer.is
-          (subst (λ (s : Start). AreLetBy s v c.sweep-first.new.seat.me.0 c.args.wire c.end-end.result n) (sym begun)
+          (subst (λ (e : End). AreLetBy c.lane.inside.post.home.start v c.sweep-first.new.post.view c.args.wire e n) c.in-Balancer.is
+          (subst (λ (s : Start). AreLetBy s v c.sweep-first.new.post.view c.args.wire c.end-end.result n) (sym begun)
           c.sweep-first.ensures.went.1)),
     )
 
 pub returns-in-Exit : goal.returns-in-Exit
 returns-in-Exit c =
-    let v : View = c.lane.inside.seat.me.0 in
+    let v : View = c.lane.inside.post.view in
     let n : ℕ = c.sweep-first.result in
-    let begun : v.start ≡ c.self.inside.counters.start =
+    let begun : c.lane.inside.post.home.start ≡ c.self.inside.counters.start =
     ap (λ (l : LaneValue). l.home.start) c.lane.view_is ∙ ap (λ (h : FloorValue). h.start) c.requires.own
     ∙ sym (ap (λ (h : FloorValue). h.start) c.self.view_is) in
-    let network : v.start.network ≡ c.network-network.result.now =
+    let network : c.lane.inside.post.home.start.network ≡ c.network-network.result.now =
     ap (λ (l : LaneValue). l.home.start.network) c.lane.view_is ∙ ap (λ (h : FloorValue). h.start.network) c.requires.own
     ∙ sym c.network-network.ensures.value in
     let i : ℕ = c.in-Exit.exit in
-    let width : c.width-width.result ≡ v.start.network.table.width =
+    let width : c.width-width.result ≡ c.lane.inside.post.home.start.network.table.width =
     c.width-width.ensures.value ∙ sym (ap (λ (x : Network). x.table.width) network) in
-    let base_is : c.self.inside.base ≡ base v.start = c.self.invariant.base ∙ sym (ap (λ (s : Start). base s) begun) in
-    let went : c.sweep-first.new.seat.me.0 ≡ after_sweep c.args.wire (Exit i) n v =
+    let base_is : c.self.inside.base ≡ base c.lane.inside.post.home.start = c.self.invariant.base ∙ sym (ap (λ (s : Start). base s) begun) in
+    let went : c.sweep-first.new.post.view ≡ after_sweep c.args.wire (Exit i) n v =
     c.sweep-first.ensures.went.0 ∙ ap (λ (e : End). after_sweep c.args.wire e n v) c.in-Exit.is in
-    let at : end_of v.start.network.table c.args.wire ≡ Exit i =
+    let at : end_of c.lane.inside.post.home.start.network.table c.args.wire ≡ Exit i =
     ap (λ (x : Network). end_of x.table c.args.wire) network ∙ c.end-end.ensures.at ∙ c.in-Exit.is in
-    let same : c.sweep-first.new.seat.me.0.start ≡ v.start =
-    ap (λ (w : View). w.start) went ∙ (kin-by (Exit i) n (on v.tokens c.args.wire) v).start in
     let many : c.from-tokens.result ≡ length (on c.lane.inside.yard.lists c.args.wire) = c.from-tokens.ensures ∙ c.count.ensures in
     let lists = c.lane.inside.yard.lists in
     let inside : c.args.wire < length lists = some-inside lists c.args.wire (rw (← c.lane.view_is) at c.requires.some) in
@@ -173,11 +169,11 @@ returns-in-Exit c =
     rw (← c.lane.view_is) (
       n,
       sweeps-on (lane_of c.lane.inside) _ c.args.wire n _ (Exit i) at
-          (λ x. record { table = c.sweep-first.ensures.seat.0 x; start = same x }) went
+          c.sweep-first.ensures.home went
           (cleared c.args.wire c.lane.inside.yard _ once inside c.leave_all.ensures.freed) refl
           (ap (λ (k : ℕ). Out i n k) many)
-          (subst (λ (e : End). AreLetBy v.start v c.sweep-first.new.seat.me.0 c.args.wire e n) c.in-Exit.is
-          (subst (λ (s : Start). AreLetBy s v c.sweep-first.new.seat.me.0 c.args.wire c.end-end.result n) (sym begun)
+          (subst (λ (e : End). AreLetBy c.lane.inside.post.home.start v c.sweep-first.new.post.view c.args.wire e n) c.in-Exit.is
+          (subst (λ (s : Start). AreLetBy s v c.sweep-first.new.post.view c.args.wire c.end-end.result n) (sym begun)
           c.sweep-first.ensures.went.1)),
     )
 

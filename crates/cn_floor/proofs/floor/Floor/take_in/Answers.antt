@@ -1,5 +1,5 @@
 use Rattle.std.proofs.Common.{◌≡◌, ◌+◌, ◌-◌, ◌++◌, List, [], length, get_or, length-append, sym, ap, ◌∙◌, subst, arith}
-use Rattle.cn_floor.proofs.Common.{FloorValue, Grant, LaneValue, Lists, StoodInState, View, on_in, tokens_in}
+use Rattle.cn_floor.proofs.Common.{FloorValue, Grant, LaneValue, Lists, PostValue, View, on_in, tokens_in}
 use Rattle.cn_yard.proofs.CallerLemmas.{nobody-on}
 use Rattle.cn_floor.specs.Views.{after_join, after_look}
 use Rattle.cn_floor.proofs.InLane.Lanes.{lane-with-way}
@@ -17,43 +17,35 @@ pub returns-in_default-clause-room : goal.returns-in_default-clause-room
 returns-in_default-clause-room c = omega
     (arith, c.in_default.ensures.err, ap length c.grants.ensures, ap (λ (l : LaneValue). l.room) c.lane.view_is)
 
-pub join-requires-clause-out : goal.join-requires-clause-out
-join-requires-clause-out c u =
-    ap (λ me. on_in u me.0) c.into_parts-seat.ensures.seat.1 ∙ ap (λ (ls : Lists). length (get_or ls u [])) (sym c.lane_laws.ensures.tokens)
+pub join_post-requires-clause-out : goal.join_post-requires-clause-out
+join_post-requires-clause-out c u =
+    ap (on_in u) c.into_parts-post.ensures.post.1 ∙ ap (λ (ls : Lists). length (get_or ls u [])) (sym c.lane_laws.ensures.tokens)
     ∙ nobody-on c.args.other.yard.lists c.requires.out u
 
 -- what the lane's view is in the end
 module _ (c : goal.After-drop-grants) where
-  view : c.look.new.seat.me.0 ≡ after_look (after_join c.lane.inside.seat.me.0 c.args.other.view)
-  view = c.look.ensures.looks.0 ∙ ap (λ me. after_look me.0) c.join.ensures.1
-      ∙ ap (λ me. after_look (after_join c.lane.inside.seat.me.0 me.0)) c.into_parts-seat.ensures.seat.1
+  is : c.join_post.new.post ≡ record c.lane.inside.post { view = after_look (after_join c.lane.inside.post.view c.args.other.view) }
+  is = c.join_post.ensures.post
+      ∙ ap (λ (v : View). record c.lane.inside.post { view = after_look (after_join c.lane.inside.post.view v) }) c.into_parts-post.ensures.post.1
 
 pub invariant_of-lane-2 : goal.invariant_of-lane-2
 invariant_of-lane-2 c =
     let was = c.lane.invariant in
-    let is = view c in
-    let theirs : c.as_slice.result.now ≡ c.args.other.view.grants = c.as_slice.ensures.value ∙ c.into_parts-seat.ensures.grants in
+    let view = ap (λ (p : PostValue). p.view) (is c) in
+    let theirs : c.as_slice.result.now ≡ c.args.other.view.grants = c.as_slice.ensures.value ∙ c.into_parts-post.ensures.grants in
     record {
-      no_slot = c.look.ensures.seat.1;
-      idle = ap (λ (x : View). x.loads) is ∙ was.idle;
-      tokens = was.tokens ∙ sym (ap (λ (x : View). x.tokens) is);
-      wires = was.wires ∙ sym (ap (λ (x : View). length x.start.network.table.ends) is);
-      grants = c.append.ensures.items ∙ (λ i. (c.make_way.ensures.items ∙ was.grants) i ++ theirs i) ∙ sym (ap (λ (x : View). x.grants) is);
-      quota = (λ i. was.quota i + c.into_parts-seat.ensures.quota i) ∙ sym (ap (λ (x : View). x.quota) is);
-      small = subst FitsLanes (sym (ap (λ (x : View). x.start) is)) was.small;
+      tokens = was.tokens ∙ sym (ap (λ (x : View). x.tokens) view);
+      grants = c.append.ensures.items ∙ (λ i. (c.make_way.ensures.items ∙ was.grants) i ++ theirs i) ∙ sym (ap (λ (x : View). x.grants) view);
+      small = subst FitsLanes (sym (ap (λ (p : PostValue). p.home.start) (is c))) was.small;
       few = omega (
         arith,
         was.small.quota,
-        c.look.ensures.looks.2,
-        ap (λ (h : FloorValue). h.start.quota) c.self.view_is,
+        c.join_post.ensures.looks.2,
         ap (λ (h : FloorValue). h.start.quota) c.requires.own.0,
         ap (λ (l : LaneValue). l.home.start.quota) c.lane.view_is,
-        ap (λ me. me.0.quota) c.join.ensures.1,
-        ap (λ me. tokens_in me.0.tokens) c.join.ensures.1,
+        ap (λ (x : View). x.quota) view,
+        ap (λ (x : View). x.quota) c.into_parts-post.ensures.post.1,
         ap tokens_in was.tokens,
-        was.quota,
-        ap (λ me. me.0.quota) c.into_parts-seat.ensures.seat.1,
-        c.into_parts-seat.ensures.quota,
       );
       room = omega (
         arith,
@@ -69,15 +61,10 @@ invariant_of-lane-2 c =
 
 pub returns-clause-ok : goal.returns-clause-ok
 returns-clause-ok c =
-    let is = view c in
     let room : c.saturating_sub-lane-inside.result ≡ c.lane.inside.room - length c.args.other.view.grants =
     c.saturating_sub-lane-inside.ensures ∙ ap (λ (gs : List Grant). c.lane.inside.room - length gs) c.grants.ensures in
-    rw (← c.lane.view_is) (λ i. record {
-      home = record { table = (c.look.ensures.seat.0 ∙ c.join.ensures.0) i; start = (is i).start };
-      view = is i;
-      yard = c.lane.inside.yard;
-      room = room i;
-    })
+    rw (← c.lane.view_is) (λ i. record { home = (is c i).home; view = (is c i).view; yard = c.lane.inside.yard; room = room i })
 
 pub returns-clause-in_state : goal.returns-clause-in_state
-returns-clause-in_state c = subst (λ (h : FloorValue). StoodInState h.start c.look.new.seat.me.0) c.self.view_is c.look.ensures.looks.1
+returns-clause-in_state c =
+    c.join_post.ensures.looks.1

@@ -1,4 +1,4 @@
-use Rattle.cn_floor.proofs.floor.Floor.split_seat.Given as goal
+use Rattle.cn_floor.proofs.floor.Floor.split_post.Given as goal
 
 abbrev pub ghosts-split : goal.ghosts-split
 ghosts-split a = record { quota = a._quota }
