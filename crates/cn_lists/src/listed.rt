@@ -118,13 +118,7 @@ impl<'c> Walk<()> for Together<'c> {
         self.clients.len() as u64
     }
 
-    fn walk(
-        &mut self,
-        floor: &Floor<'_>,
-        post: &mut Post,
-        grants: &mut Vec<Grant>,
-        entry: u32,
-    ) {
+    fn walk(&mut self, floor: &Floor<'_>, post: &mut Post, grants: &mut Vec<Grant>, entry: u32) {
         let all = Places {
             first: 0,
             stride: 1,

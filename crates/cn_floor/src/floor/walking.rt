@@ -25,13 +25,7 @@ pub trait Walk<A> {
         ensures { result ≡ many self.now };
 
     /// Lets them in by an entry and walks them out. Their grants stand last in the list, as in the view.
-    fn walk(
-        &mut self,
-        floor: &Floor<'_>,
-        post: &mut Post,
-        grants: &mut Vec<Grant>,
-        entry: u32,
-    ) -> A
+    fn walk(&mut self, floor: &Floor<'_>, post: &mut Post, grants: &mut Vec<Grant>, entry: u32) -> A
         requires own { post.old.home ≡ floor.now }
         requires out { (wire : ℕ) → on post.old.view.tokens wire ≡ [] }
         requires entry { entry < floor.now.start.network.table.entries }
