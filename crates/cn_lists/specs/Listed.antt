@@ -50,7 +50,8 @@ gone_too gone tokens = λ k. gone k + count_by (λ e. e.0 == k) tokens
 
 -- grants came after the first ones, to clients of a list at places that have gone so often; the name of each stands at
 -- its place, if the list of names has one for each, and none has gone twice
-pub record AreNoted (before now : List Grant) (gone : ℕ → ℕ) (clients : List ℕ) (all : List Grant) (names : List ℕ) : Type 0 where
+pub record AreNoted (before now : List Grant) (gone : ℕ → ℕ) (clients : List ℕ) (all : List Grant)
+    (names : List ℕ) : Type 0 where
   pub items : all ≡ now
   pub places : List ℕ
   pub often : (k : ℕ) → times k places ≡ gone k
