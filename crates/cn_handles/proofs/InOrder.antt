@@ -1,77 +1,14 @@
--- Grants put into the order of the clients whom they are to, and clients of a list who come in by one entry.
-use Rattle.std.proofs.Common.{◌≡◌, ◌≢◌, ℕ, zero, suc, ◌+◌, ◌-◌, ◌<◌, ◌≤◌, List, [], ◌∷◌, ◌++◌, arith, refl, sym, ap, ◌∙◌}
-use Rattle.std.proofs.Common.{cond, eqb, drop, get_or, length, map, min, slice_index, take}
-use Rattle.std.specs.List.Sorted.{IsPermutation}
-use Rattle.std.proofs.lemmas.Bool.{ne_eqb}
-use Rattle.std.proofs.lemmas.List.{drop_at, length-append, length-drop, length-map, map-append, take_all}
-use Rattle.std.proofs.lemmas.List.Sorted.{IsPermutation-append, IsPermutation-map}
-use Rattle.cn_spec.specs.Sums.{times}
-use Rattle.cn_spec.proofs.CallerLemmas.{order-times, times-cons, times-map, times-member, times-nil, times-order}
+-- Clients of a list who come in by one entry, and their names.
+use Rattle.std.proofs.Common.{◌≡◌, ℕ, zero, suc, ◌+◌, ◌-◌, ◌<◌, ◌≤◌, List, [], ◌∷◌, ◌++◌, arith, refl, ap, ◌∙◌}
+use Rattle.std.proofs.Common.{drop, get_or, length, map, min, slice_index, slice_set, take}
+use Rattle.std.proofs.lemmas.List.{length-drop, length-map, map-append}
+use Rattle.std.proofs.lemmas.List.Sorted.{IsPermutation-append, IsPermutation-refl}
 use Rattle.cn_ledger.specs.declared.client.Client as ledger
 use Rattle.cn_floor.specs.declared.view.Grant.{Grant}
-use Rattle.cn_walk.specs.Walks.{AreFor}
-use Rattle.cn_handles.specs.Many.{AreNamesBy, IsLongestRun, all_by, by_entry, client_from}
+use Rattle.cn_lists.specs.Listed.{AreNamesBy}
+use Rattle.cn_handles.specs.Many.{IsLongestRun, all_by, by_entry, client_from}
 use Rattle.cn_handles.specs.declared.handles.client.Client.{Client}
-use Rattle.cn_handles.proofs.Listed.{map-part, times-by}
-
--- ---- where a grant stands
-
--- where some are to a client, there is one
-pub some-left : (c i : ℕ) (grants : List Grant) → 0 < times c (map (λ g. g.client) (drop i grants)) → i < length grants
-some-left c zero [] some = absurd (omega (arith, some, times-nil c))
-some-left c zero (g ∷ grants) some = omega arith
-some-left c (suc i) [] some = absurd (omega (arith, some, times-nil c))
-some-left c (suc i) (g ∷ grants) some = let less : i < length grants = some-left c i grants some in omega (arith, less)
-
--- as many are to a client behind a grant that is to another
-pub behind : (c i : ℕ) (grants : List Grant) (d : Grant) → i < length grants → (get_or grants i d).client ≢ c
-    → times c (map (λ g. g.client) (drop (suc i) grants)) ≡ times c (map (λ g. g.client) (drop i grants))
-behind c i [] d less other = absurd (omega (arith, less))
-behind c zero (g ∷ grants) d less other =
-    let none : ◌≡◌ {A = ℕ} (cond (eqb g.client c) 1 0) 0 = ap {B = ℕ} (λ q. cond q 1 0) (ne_eqb g.client c other) in
-    omega (arith, none, times-cons c g.client (map (λ (h : Grant). h.client) grants))
-behind c (suc i) (g ∷ grants) d less other = behind c i grants d (omega (arith, less)) other
-
--- where the first grants are to the first clients, one to the next client is among the others
-pub next-left : (c place : ℕ) (grants : List Grant) (ids : List ℕ) → times c (map (λ g. g.client) grants) ≡ times c ids
-    → ((k : ℕ) (d : Grant) → k < place → (get_or grants k d).client ≡ slice_index ids k) → place < length ids → slice_index ids place ≡ c
-    → 0 < times c (map (λ g. g.client) (drop place grants))
-next-left c zero grants ids same done less is =
-    omega (arith, times-member ids 0 less, ap (λ (w : ℕ). times w ids) is, same)
-next-left c (suc n) [] ids same done less is =
-    absurd (omega (arith, times-member ids (suc n) less, ap (λ (w : ℕ). times w ids) is, same, times-nil c))
-next-left c (suc n) (g ∷ grants) [] same done less is = absurd (omega (arith, less))
-next-left c (suc n) (g ∷ grants) (x ∷ ids) same done less is =
-    let first : g.client ≡ x = done 0 g (omega arith) in
-    let alike : ◌≡◌ {A = ℕ} (cond (eqb g.client c) 1 0) (cond (eqb x c) 1 0) = ap {B = ℕ} (λ (w : ℕ). cond (eqb w c) 1 0) first in
-    let rest : times c (map (λ (h : Grant). h.client) grants) ≡ times c ids =
-    omega (arith, same, alike, times-cons c g.client (map (λ (h : Grant). h.client) grants), times-cons c x ids) in
-    next-left c n grants ids rest (λ k d l. done (suc k) d (omega (arith, l))) (omega (arith, less)) is
-
--- a client has as many of these grants, in whatever order
-pub as-often : (c : ℕ) (ids : List ℕ) (old new : List Grant) → IsPermutation ids (map (λ g. g.client) old) → IsPermutation old new
-    → times c (map (λ g. g.client) new) ≡ times c ids
-as-often c ids old new theirs same =
-    let client : Grant → ℕ = λ g. g.client in
-    times-order (map client old) (map client new) c (IsPermutation-map client old new same) ∙ times-order ids (map client old) c theirs
-
--- numbers of grants, one after the other
-pub all-are : (f : Grant → ℕ) (grants : List Grant) (ns : List ℕ) → length grants ≡ length ns
-    → ((k : ℕ) (d : Grant) → k < length ns → f (get_or grants k d) ≡ slice_index ns k) → map f grants ≡ ns
-all-are f [] [] long each = refl
-all-are f [] (n ∷ ns) long each = absurd (omega (arith, long))
-all-are f (g ∷ grants) [] long each = absurd (omega (arith, long))
-all-are f (g ∷ grants) (n ∷ ns) long each =
-    let first : f g ≡ n = each 0 g (omega arith) in
-    ap (λ (m : ℕ). m ∷ map f grants) first
-    ∙ ap (λ (ms : List ℕ). n ∷ ms) (all-are f grants ns (omega (arith, long)) (λ k d l. each (suc k) d (omega (arith, l))))
-
--- whom the grants of clients by one entry are to
-pub theirs : (entry : ℕ) (ids : List ℕ) (grants : List Grant) → AreFor (by_entry entry ids) grants
-    → IsPermutation ids (map (λ g. g.client) grants)
-theirs entry ids grants is =
-    order-times ids (map (λ (g : Grant). g.client) grants)
-    (λ n. sym (times-map (λ (g : Grant). g.client) n grants ∙ is.as_often n ∙ times-by entry n ids))
+use Rattle.cn_handles.proofs.Listed.{map-part}
 
 -- names of clients, and then of others
 pub both-named : (some most : List Grant) (xs ys ns ms : List ℕ) → AreNamesBy some xs ns → AreNamesBy most ys ms
@@ -130,18 +67,6 @@ run-length zero (suc n) (x ∷ ids) few =
 run-length (suc i) n [] few = absurd (omega (arith, few))
 run-length (suc i) n (x ∷ ids) few = run-length i n ids (omega (arith, few))
 
--- ---- what a lane has more
-
--- the grants that a longer list has behind those of another
-pub new-ones : (few many old most : List Grant) → few ≡ old → many ≡ old ++ most
-    → take (length many - length few) (drop (length few) many) ≡ most
-new-ones few many old most first all =
-    let long : length many ≡ length old + length most = ap (λ (gs : List Grant). length gs) all ∙ length-append old most in
-    let as_few : length few ≡ length old = ap (λ (gs : List Grant). length gs) first in
-    ap (λ (gs : List Grant). take (length many - length few) (drop (length few) gs)) all
-    ∙ ap (λ (gs : List Grant). take (length many - length few) gs) (drop_at old most (length few) (sym as_few))
-    ∙ take_all (length many - length few) most (omega (arith, long, as_few))
-
 -- as many names as clients
 pub as-many-names : (grants : List Grant) (ids names : List ℕ) → AreNamesBy grants ids names → length names ≡ length ids
 as-many-names grants ids names is =
@@ -152,3 +77,17 @@ as-many-names grants ids names is =
       length-map is.order (λ (g : Grant). g.client),
       length-map is.order (λ (g : Grant). g.name),
     )
+
+-- a client that is named by itself
+pub one-named : (ids names : List ℕ) (grant : Grant) → length ids ≡ 1 → length names ≡ length ids → grant.client ≡ slice_index ids 0
+    → AreNamesBy (grant ∷ []) ids (slice_set names 0 grant.name)
+one-named [] names grant one same whose = absurd (omega (arith, one))
+one-named (x ∷ []) [] grant one same whose = absurd (omega (arith, same))
+one-named (x ∷ []) (y ∷ []) grant one same whose = record {
+  order = grant ∷ [];
+  same = IsPermutation-refl (grant ∷ []);
+  whose = λ i. whose i ∷ [];
+  called = refl;
+}
+one-named (x ∷ []) (y ∷ z ∷ names) grant one same whose = absurd (omega (arith, same))
+one-named (x ∷ y ∷ ids) names grant one same whose = absurd (omega (arith, one))

@@ -1,11 +1,10 @@
 -- What the naming of many clients by one call makes of a lane.
-use Rattle.std.specs.Prelude.{IsPermutation, List, Option, Some, [], ℕ, ◌++◌, ◌<◌, ◌∷◌, ◌≡◌, ◌≢◌, ◌≤◌}
+use Rattle.std.specs.Prelude.{List, Option, Some, [], ℕ, ◌<◌, ◌∷◌, ◌≡◌, ◌≢◌, ◌≤◌}
 use Rattle.std.specs.Prelude.{drop, get_or, length, map, slice_index, take}
 use Rattle.cn_spec.specs.Sums.{times}
 use Rattle.cn_ledger.specs.declared.client.Client as ledger
-use Rattle.cn_floor.specs.declared.view.Grant as floor
 use Rattle.cn_floor.specs.Lane.{LaneValue}
-use Rattle.cn_lists.specs.Listed.{AreNamed}
+use Rattle.cn_lists.specs.Listed.{AreNamed, HaveNames}
 use Rattle.cn_floor.specs.Named.{IsNamed}
 use Rattle.cn_floor.specs.Steps.{StoodInState}
 use Rattle.cn_walk.specs.Walks.{WalksAll}
@@ -68,17 +67,10 @@ NamesMany old new clients grants =
 abbrev pub all_by : ℕ → List ℕ → List Client
 all_by entry ids = map (λ id. record { client = id; entry = entry }) ids
 
--- these grants, put into the order of these clients, are to them, and have these names
-pub record AreNamesBy (grants : List floor.Grant) (ids names : List ℕ) : Type 0 where
-  pub order : List floor.Grant
-  pub same : IsPermutation grants order
-  pub whose : map (λ g. g.client) order ≡ ids
-  pub called : map (λ g. g.name) order ≡ names
-
 -- clients by one entry are named, and these are their names by the lane's new grants, in the order of the clients
 pub record AreListed (old new : LaneValue) (ids : List ℕ) (entry : ℕ) (names : List ℕ) : Type 0 where
   pub named : AreAllNamed old new (all_by entry ids)
-  pub listed : (more : List floor.Grant) × (new.view.grants ≡ old.view.grants ++ more) × AreNamesBy more ids names
+  pub listed : HaveNames old.view new.view ids names
 
 -- the same of what handles have
 abbrev pub NamesList : Option LaneValue → Option LaneValue → List ℕ → ℕ → List ℕ → Type 0

@@ -6,4 +6,5 @@ mod Left
 mod Together
 mod InTurn
 mod Taken
+mod ByPlace
 mod Counted

@@ -1,5 +1,5 @@
 -- Clients of a list who come in by one entry and pass the ends of wires together.
-use Rattle.std.specs.Prelude.{◌≡◌, ◌≢◌, ℕ, zero, suc, ◌+◌, ◌-◌, ◌*◌, ◌<◌, ◌≤◌, ◌^◌, ◌++◌, ◌==◌, [], ◌∷◌, List, count_by, length, map, replicate, slice_index, take, vec_capacity}
+use Rattle.std.specs.Prelude.{◌≡◌, ◌≢◌, ℕ, zero, suc, ◌+◌, ◌-◌, ◌*◌, ◌<◌, ◌≤◌, ◌^◌, ◌++◌, ◌==◌, [], ◌∷◌, IsPermutation, List, count_by, length, map, replicate, slice_index, take, vec_capacity}
 use Rattle.cn_spec.specs.Sums.{times}
 use Rattle.cn_ledger.specs.declared.client.Client.{Client}
 use Rattle.cn_yard.specs.Lists.{on}
@@ -19,17 +19,23 @@ unfoldable pub placed : List ℕ → ℕ → ℕ → ℕ → List (ℕ × ℕ)
 placed clients first stride zero = []
 placed clients first stride (suc n) = (first, slice_index clients first) ∷ placed clients (first + stride) stride n
 
--- what stays the same of a lane's grants and a list of clients who get more
+-- what stays the same of a lane's grants, a list of clients who get more, and that of their names
 pub record ListFrame : Type 0 where
-  pub name : ℕ
+  pub grants : ℕ
+  pub list : ℕ
   pub capacity : ℕ
   pub clients : List ℕ
+  pub names : ℕ
+  pub size : ℕ
 
 abbrev pub frame_of : Granting → ListFrame
 frame_of notes = record {
-  name = notes.grants.ghost_name;
+  grants = notes.grants.ghost_name;
+  list = notes.list.ghost_name;
   capacity = vec_capacity notes.grants.now;
-  clients = notes.clients.now;
+  clients = notes.list.now.clients.now;
+  names = notes.list.now.names.ghost_name;
+  size = length notes.list.now.names.now;
 }
 
 -- these tokens are so many of the list's clients, from a place on
@@ -37,6 +43,34 @@ pub record Stand (frame : ListFrame) (p : Places) (count : ℕ) (tokens : List (
   pub are : tokens ≡ placed frame.clients p.first p.stride count
   pub within : 0 < count → p.first + p.stride * (count - 1) < length frame.clients
   pub few : length frame.clients < 2 ^ 63
+
+-- how often each token has gone, if it went so often and these have gone too
+abbrev pub gone_too : (ℕ → ℕ) → List (ℕ × ℕ) → ℕ → ℕ
+gone_too gone tokens = λ k. gone k + count_by (λ e. e.0 == k) tokens
+
+-- grants came after the first ones, to clients of a list at places that have gone so often; the name of each stands at
+-- its place, if the list of names has one for each, and none has gone twice
+pub record AreNoted (before now : List Grant) (gone : ℕ → ℕ) (clients : List ℕ) (all : List Grant)
+    (names : List ℕ) : Type 0 where
+  pub items : all ≡ now
+  pub places : List ℕ
+  pub often : (k : ℕ) → times k places ≡ gone k
+  pub more : List Grant
+  pub grew : now ≡ before ++ more
+  pub whose : map (λ g. g.client) more ≡ map (λ k. slice_index clients k) places
+  pub called : length names ≡ length clients → ((k : ℕ) → gone k ≤ 1)
+      → map (λ g. g.name) more ≡ map (λ k. slice_index names k) places
+
+-- these grants, put into the order of these clients, are to them, and have these names
+pub record AreNamesBy (grants : List Grant) (clients names : List ℕ) : Type 0 where
+  pub order : List Grant
+  pub same : IsPermutation grants order
+  pub whose : map (λ g. g.client) order ≡ clients
+  pub called : map (λ g. g.name) order ≡ names
+
+-- the grants that a view has more are those of clients of a list, whose names stand in the order of the list
+abbrev pub HaveNames : View → View → List ℕ → List ℕ → Type 0
+HaveNames v w clients names = (more : List Grant) × (w.grants ≡ v.grants ++ more) × AreNamesBy more clients names
 
 -- grants for these tokens: as many, and to each client as often as it has tokens
 pub record AreTheirs (tokens : List (ℕ × ℕ)) (grants : List Grant) : Type 0 where

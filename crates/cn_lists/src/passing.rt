@@ -4,7 +4,7 @@ ghost use Rattle.std.specs.Prelude.{◌≡◌, ℕ, ◌+◌, ◌-◌, ◌/◌, �
 ghost use Rattle.cn_spec.specs.Step as step;
 ghost use Rattle.cn_yard.specs.Deals.{every_second};
 ghost use Rattle.cn_yard.specs.Lists.{on, times_in};
-ghost use Rattle.cn_lists.specs.Listed.{CameIn, HaveLeft, HaveWalked, placed};
+ghost use Rattle.cn_lists.specs.Listed.{CameIn, HaveLeft, HaveWalked, gone_too, placed};
 ghost use Rattle.cn_floor.specs.EntersAll.{ComeTogether};
 ghost use Rattle.cn_floor.specs.Named.{AllLeft};
 ghost use Rattle.cn_floor.specs.Sweeps.{SweptBy, grants_out};
@@ -30,8 +30,8 @@ pub(crate) trait Party<N>: Copy {
     /// So many of them may be these.
     ghost Are: { Frame → Self → ℕ → List (ℕ × ℕ) → Type 0 };
 
-    /// Of these grants all after the first ones have been noted.
-    ghost Noted: { List Grant → List Grant → N → Type 0 };
+    /// Of these grants all after the first ones have been noted, of tokens that have gone so often.
+    ghost Noted: { List Grant → List Grant → (ℕ → ℕ) → N → Type 0 };
 
     /// The clients who may be noted.
     fn clients<'n>(self, notes: &'n N) -> &'n [u64]
@@ -72,9 +72,9 @@ pub(crate) trait Party<N>: Copy {
         requires high { step.name_of width exit (first + count) < 2 ^ 64 }
         ensures kept { kept notes.new ≡ kept notes.old }
         ensures room { room notes.new + count ≡ room notes.old }
-        ensures noted { (tokens : List (ℕ × ℕ)) (before now : List Grant) → length tokens ≡ count
-            → Are (kept notes.old) self count tokens → Noted before now notes.old
-            → Noted before (now ++ grants_out width base exit first tokens) notes.new };
+        ensures noted { (tokens : List (ℕ × ℕ)) (before now : List Grant) (gone : ℕ → ℕ) → length tokens ≡ count
+            → Are (kept notes.old) self count tokens → Noted before now gone notes.old
+            → Noted before (now ++ grants_out width base exit first tokens) (gone_too gone tokens) notes.new };
 }
 
 /// Lets a party that stands on a wire pass its end together, and then each half, until all have left. Nobody stands
@@ -105,8 +105,8 @@ pub(crate) fn pass_all<N, P: Party<N>>(
     ensures once { (token : ℕ) → times_in seat.new.me.0.tokens token ≤ 1 }
     ensures kept { P.kept notes.new ≡ P.kept notes.old }
     ensures room { P.room notes.new + count ≡ P.room notes.old }
-    ensures noted { (before : List Grant) → P.Noted before seat.old.me.0.grants notes.old
-        → P.Noted before seat.new.me.0.grants notes.new }
+    ensures noted { (before : List Grant) (gone : ℕ → ℕ) → P.Noted before seat.old.me.0.grants gone notes.old
+        → P.Noted before seat.new.me.0.grants (gone_too gone (on seat.old.me.0.tokens wire)) notes.new }
 {
     if count == 0 {
         return;
@@ -179,8 +179,9 @@ pub(crate) fn walk_all<N, P: Party<N>>(
     ensures left { AllLeft (length (P.clients_of notes.old)) seat.old.me.0 seat.new.me.0 }
     ensures walked { HaveWalked floor.now.start (P.clients_of notes.old) entry seat.old.me.0 seat.new.me.0 }
     ensures kept { P.kept notes.new ≡ P.kept notes.old }
-    ensures noted { (before : List Grant) → P.Noted before seat.old.me.0.grants notes.old
-        → P.Noted before seat.new.me.0.grants notes.new }
+    ensures noted { (before : List Grant) (gone : ℕ → ℕ) → P.Noted before seat.old.me.0.grants gone notes.old
+        → P.Noted before seat.new.me.0.grants (gone_too gone
+        (placed (P.clients_of notes.old) 0 1 (length (P.clients_of notes.old)))) notes.new }
 {
     let count = come_in(floor, seat, notes, party, entry);
     let network = floor.network();

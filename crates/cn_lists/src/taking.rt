@@ -33,7 +33,7 @@ impl<'n> Party<Names<'n>> for Anyone {
 
     ghost Are = { λ _ _ _ _. Unit {0} };
 
-    ghost Noted = { AreWritten };
+    ghost Noted = { λ before now _ notes. AreWritten before now notes };
 
     fn clients<'m>(self, notes: &'m Names<'n>) -> &'m [u64] {
         &*notes.names

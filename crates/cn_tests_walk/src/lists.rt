@@ -16,19 +16,20 @@ fn name_all(
     lane: &mut Lane,
     clients: &[u64],
     entry: u64,
+    names: &mut [u64],
 ) -> Option<Result<(), LaneFault>>
     requires { lane.old.home ≡ floor.now }
     ensures { lane.new.home ≡ lane.old.home }
 {
     if lane.inside() == 0 {
-        Some(cn_lists::name_all(floor, lane, clients, entry))
+        Some(cn_lists::name_all(floor, lane, clients, entry, names))
     } else {
         None
     }
 }
 
 /// Whether the quiet floor has these counts, after a refused list by entry 8, one of eight clients, and a list of the
-/// six by this entry, and each of the six has a name below 6.
+/// six by this entry, and each of the six has the name that stands at its place, below 6.
 fn six_are_named(
     alloc: Global,
     network: &Counting,
@@ -38,12 +39,13 @@ fn six_are_named(
     let (floor, mut lane) = open(alloc, network, 7)?;
     let six = [60, 61, 62, 63, 64, 65];
     let eight = [1, 2, 3, 4, 5, 6, 7, 8];
-    let no_entry = name_all(&floor, &mut lane, &six, 8)? == Err(LaneFault::NoSuchEntry);
-    let spent = name_all(&floor, &mut lane, &eight, entry)? == Err(LaneFault::QuotaSpent);
-    name_all(&floor, &mut lane, &six, entry)?.ok()?;
+    let mut names = [9; 6];
+    let no_entry = name_all(&floor, &mut lane, &six, 8, &mut names)? == Err(LaneFault::NoSuchEntry);
+    let spent = name_all(&floor, &mut lane, &eight, entry, &mut [])? == Err(LaneFault::QuotaSpent);
+    name_all(&floor, &mut lane, &six, entry, &mut names)?.ok()?;
     let quiet = close(floor, lane)?;
     let holders = quiet.holders().ok()?;
-    let own = six.iter().all(|client| holders.contains(client));
+    let own = (0..6).all(|place| holders.get(names[place] as usize) == Some(&six[place]));
     Some([no_entry, spent, own, quiet.counts() == counts])
 }
 

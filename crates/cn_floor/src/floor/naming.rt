@@ -33,7 +33,7 @@ struct One<'p, P: Pause> {
 impl<'p, P: Pause> Walk<Grant> for One<'p, P> {
     ghost many = { λ _. 1 };
 
-    ghost Walked = { λ start one entry grant v w. IsGranted start one.client entry grant v w };
+    ghost Walked = { λ start one _ entry grant v w. IsGranted start one.client entry grant v w };
 
     #[inline(always)]
     fn count(&self) -> u64 {
@@ -42,7 +42,7 @@ impl<'p, P: Pause> Walk<Grant> for One<'p, P> {
 
     #[inline(always)]
     fn walk(
-        &self,
+        &mut self,
         floor: &Floor<'_>,
         seat: &mut Seat<(), View>,
         grants: &mut Vec<Grant>,
@@ -75,7 +75,7 @@ impl<'a> Floor<'a> {
         ensures room { 0 < lane.old.room → ¬ (IsErrOf result LaneFault.Memory) }
     {
         let pause = &NoPause;
-        let grant = self.let_walk(lane, &One { client, pause }, entry)?;
+        let grant = self.let_walk(lane, &mut One { client, pause }, entry)?;
         Ok(grant.name)
     }
 
@@ -256,11 +256,11 @@ pub fn walk_one<'a, G: Gate, R: Wait>(
     ensures { IsNamed lane.old lane.new client.id client.entry result }
 {
     let asked = Asked { rt, gate, worker };
-    let one = One {
+    let mut one = One {
         client: client.id,
         pause: &asked,
     };
-    let Ok(grant) = floor.let_walk(lane, &one, client.entry) else {
+    let Ok(grant) = floor.let_walk(lane, &mut one, client.entry) else {
         unreachable!()
     };
     grant.name

@@ -17,8 +17,8 @@ pub trait Walk<A> {
     /// How many they are.
     ghost many: { Self → ℕ };
 
-    /// What they make of a view by an entry, with an answer, on a floor that began so.
-    ghost Walked: { Start → Self → ℕ → A → View → View → Type 0 };
+    /// What they make of themselves and of a view by an entry, with an answer, on a floor that began so.
+    ghost Walked: { Start → Self → Self → ℕ → A → View → View → Type 0 };
 
     /// How many they are.
     fn count(&self) -> u64
@@ -26,7 +26,7 @@ pub trait Walk<A> {
 
     /// Lets them in by an entry and walks them out. Their grants stand last in the list, as in the view.
     fn walk(
-        &self,
+        &mut self,
         floor: &Floor<'_>,
         seat: &mut Seat<(), View>,
         grants: &mut Vec<Grant>,
@@ -38,15 +38,15 @@ pub trait Walk<A> {
         requires wires { length seat.old.me.0.tokens ≡ length floor.now.start.network.table.ends }
         requires out { (wire : ℕ) → on seat.old.me.0.tokens wire ≡ [] }
         requires entry { entry < floor.now.start.network.table.entries }
-        requires quota { many self.now ≤ seat.old.me.0.quota }
-        requires few { many self.now < 2 ^ 62 }
+        requires quota { many self.old ≤ seat.old.me.0.quota }
+        requires few { many self.old < 2 ^ 62 }
         requires granted { grants.old.items ≡ seat.old.me.0.grants }
-        requires room { length grants.old.items + many self.now ≤ vec_capacity grants.old }
+        requires room { length grants.old.items + many self.old ≤ vec_capacity grants.old }
         ensures seat { (seat.new.table_id ≡ seat.old.table_id) × (seat.new.me.1 ≡ []) }
-        ensures left { AllLeft (many self.now) seat.old.me.0 seat.new.me.0 }
+        ensures left { AllLeft (many self.old) seat.old.me.0 seat.new.me.0 }
         ensures granted { grants.new.items ≡ seat.new.me.0.grants }
         ensures capacity { vec_capacity grants.new ≡ vec_capacity grants.old }
-        ensures walked { Walked floor.now.start self.now entry result seat.old.me.0 seat.new.me.0 };
+        ensures walked { Walked floor.now.start self.old self.new entry result seat.old.me.0 seat.new.me.0 };
 }
 
 impl<'a> Floor<'a> {
@@ -60,20 +60,20 @@ impl<'a> Floor<'a> {
     pub fn let_walk<A, W: Walk<A>>(
         &self,
         lane: &mut Lane,
-        walk: &W,
+        walk: &mut W,
         entry: u64,
     ) -> Result<A, LaneFault>
         requires own { lane.old.home ≡ self.now }
         requires out { tokens_in lane.old.yard.lists ≡ 0 }
-        ensures ok { IfOk result (λ answer. LetsWalk lane.old lane.new (W.many walk.now)
-            × W.Walked self.now.start walk.now entry answer lane.old.view lane.new.view) }
-        ensures err { OnErr result (lane.new ≡ lane.old) }
+        ensures ok { IfOk result (λ answer. LetsWalk lane.old lane.new (W.many walk.old)
+            × W.Walked self.now.start walk.old walk.new entry answer lane.old.view lane.new.view) }
+        ensures err { OnErr result ((lane.new ≡ lane.old) × (walk.new ≡ walk.old)) }
         ensures entry { IsErrOf result LaneFault.NoSuchEntry
             ↔ (self.now.start.network.table.entries ≤ entry) }
         ensures quota { IsErrOf result LaneFault.QuotaSpent
             ↔ ((entry < self.now.start.network.table.entries)
-            × (lane.old.view.quota < W.many walk.now)) }
-        ensures room { W.many walk.now ≤ lane.old.room → ¬ (IsErrOf result LaneFault.Memory) }
+            × (lane.old.view.quota < W.many walk.old)) }
+        ensures room { W.many walk.old ≤ lane.old.room → ¬ (IsErrOf result LaneFault.Memory) }
     {
         let network = self.network();
         if entry >= u64::from(network.entries()) {

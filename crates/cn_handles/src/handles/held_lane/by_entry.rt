@@ -1,9 +1,10 @@
 //! Many clients are named by one call: those who follow one another by one entry together.
 
-ghost use Rattle.std.specs.Prelude.{All, Some, false, length, map, take, ◌<◌, ◌≡◌, ◌≤◌};
+ghost use Rattle.std.specs.Prelude.{All, Some, false, length, map, slice_set, take, ◌<◌, ◌≡◌, ◌≤◌};
 ghost use Rattle.std.specs.Prelude.{IfErr, IsTrue, OnErr, OnOk};
 ghost use Rattle.cn_yard.specs.Lists.{tokens_in};
 ghost use Rattle.cn_floor.specs.Steps.{StoodInState};
+ghost use Rattle.cn_lists.specs.Listed.{HaveNames};
 ghost use Rattle.cn_walk.specs.Walks.{WalksAll};
 ghost use Rattle.cn_handles.specs.Many.{AreAllNamed, AreNamedAtOnce, IsLongestRun, by_entry, first_entry};
 ghost use Rattle.cn_handles.specs.Refusals.{NotNamedMany};
@@ -47,8 +48,24 @@ fn copy_run(clients: &[Client], ids: &mut [u64]) -> usize
     count
 }
 
-/// Names clients who come in by one entry, of whom there is one at least: one by itself, and several together.
-pub(super) fn name_run(floor: &Floor<'static>, lane: &mut Lane, ids: &[u64], entry: u64)
+/// Writes the name of a client that is named by itself, if there is a place for it.
+fn write_name(names: &mut [u64], name: u64)
+    ensures { 0 < length names.old → names.new ≡ slice_set names.old 0 name }
+{
+    if !names.is_empty() {
+        names[0] = name;
+    }
+}
+
+/// Names clients who come in by one entry, of whom there is one at least: one by itself, and several together. If there
+/// is a place for the name of each, it is written there.
+pub(super) fn name_run(
+    floor: &Floor<'static>,
+    lane: &mut Lane,
+    ids: &[u64],
+    entry: u64,
+    names: &mut [u64],
+)
     requires own { lane.old.home ≡ floor.now }
     requires out { tokens_in lane.old.yard.lists ≡ 0 }
     requires some { 0 < length ids.now }
@@ -58,13 +75,15 @@ pub(super) fn name_run(floor: &Floor<'static>, lane: &mut Lane, ids: &[u64], ent
     ensures named { AreNamedAtOnce lane.old lane.new ids.now entry }
     ensures walked { WalksAll lane.old lane.new (by_entry entry ids.now) }
     ensures in_state { StoodInState lane.old.home.start lane.new.view }
+    ensures names { length names.old ≡ length ids.now → HaveNames lane.old.view lane.new.view ids.now names.new }
 {
     if ids.len() == 1 {
-        let Ok(_name) = floor.name(lane, ids[0], entry) else {
+        let Ok(name) = floor.name(lane, ids[0], entry) else {
             unreachable!()
         };
+        write_name(names, name);
     } else {
-        let Ok(()) = cn_lists::name_all(floor, lane, ids, entry) else {
+        let Ok(()) = cn_lists::name_all(floor, lane, ids, entry, names) else {
             unreachable!()
         };
     }
@@ -86,7 +105,7 @@ fn name_all(floor: &Floor<'static>, lane: &mut Lane, clients: &[Client])
     while named < clients.len() {
         let rest = &clients[named..];
         let count = copy_run(rest, &mut ids);
-        name_run(floor, lane, &ids[..count], rest[0].entry);
+        name_run(floor, lane, &ids[..count], rest[0].entry, &mut []);
         named += count;
     }
 }

@@ -1,91 +1,17 @@
 //! The clients of a list, who all come in by one entry, are named by one call, and get their names in the order of the
 //! list.
 
-ghost use Rattle.std.specs.Prelude.{drop, get_or, length, map, ◌<◌, ◌≡◌, ◌≤◌};
-ghost use Rattle.std.specs.Prelude.{IfErr, IsPermutation, OnErr, OnOk, Some};
-ghost use Rattle.cn_spec.specs.Sums.{times};
-ghost use Rattle.cn_floor.specs.declared.view.Grant.{Grant};
+ghost use Rattle.std.specs.Prelude.{Some, length, ◌<◌, ◌≡◌, ◌≤◌};
+ghost use Rattle.std.specs.Prelude.{IfErr, OnErr, OnOk};
 ghost use Rattle.cn_yard.specs.Lists.{tokens_in};
-ghost use Rattle.cn_handles.specs.Many.{AreListed, AreNamesBy};
+ghost use Rattle.cn_handles.specs.Many.{AreListed};
 ghost use Rattle.cn_handles.specs.Refusals.{NotNamedList};
 
 use super::HeldLane;
 use super::by_entry::{TOGETHER, name_run};
 use crate::handles::refusal::Refusal;
 use crate::places::floor_of;
-use cn_floor::{Floor, Grant, Lane};
-
-/// How many slots there are for guesses. A client has one, and others may have the same.
-const SLOTS: usize = 256;
-
-/// Stands for a grant that is not there.
-const NO_GRANT: Grant = Grant {
-    client: 0,
-    exit: 0,
-    visit: 0,
-    name: 0,
-};
-
-/// A client's slot. Clients with numbers in a row have different ones.
-fn slot_of(client: u64) -> usize
-    ensures { result < SLOTS }
-{
-    (client.wrapping_mul(0x9E37_79B9_7F4A_7C15) >> 56) as usize % SLOTS
-}
-
-/// Where a grant to this client stands, from a place on: where it is guessed to be, or else the first.
-fn find(grants: &[Grant], from: usize, client: u64, guess: usize) -> usize
-    requires there { 0 < times client (map (λ g. g.client) (drop from grants.now)) }
-    ensures within { (from ≤ result) × (result < length grants.now) }
-    ensures found { (d : Grant) → (get_or grants.now result d).client ≡ client }
-{
-    if guess >= from && guess < grants.len() && grants[guess].client == client {
-        return guess;
-    }
-    let mut at = from;
-    while grants[at].client != client {
-        at += 1;
-    }
-    at
-}
-
-/// Puts grants into the order of the clients whom they are to. Each is found by a guess where it stands.
-fn put_in_order(grants: &mut [Grant], clients: &[u64])
-    requires few { length clients.now ≤ TOGETHER }
-    requires many { length grants.old ≡ length clients.now }
-    requires theirs { IsPermutation clients.now (map (λ g. g.client) grants.old) }
-    ensures same { IsPermutation grants.old grants.new }
-    ensures clients { map (λ g. g.client) grants.new ≡ clients.now }
-{
-    let mut guesses = [0; SLOTS];
-    for place in 0..grants.len() {
-        guesses[slot_of(grants[place].client)] = place as u8;
-    }
-    for place in 0..clients.len() {
-        let client = clients[place];
-        let guess = usize::from(guesses[slot_of(client)]);
-        let at = find(grants, place, client, guess);
-        guesses[slot_of(grants[place].client)] = at as u8;
-        grants.swap(place, at);
-    }
-}
-
-/// Writes the names of these grants in the order of the clients whom they are to.
-fn write_names(grants: &[Grant], clients: &[u64], names: &mut [u64])
-    requires few { length clients.now ≤ TOGETHER }
-    requires many { length grants.now ≡ length clients.now }
-    requires theirs { IsPermutation clients.now (map (λ g. g.client) grants.now) }
-    requires space { length names.old ≡ length clients.now }
-    ensures { AreNamesBy grants.now clients.now names.new }
-{
-    let mut space = [NO_GRANT; TOGETHER];
-    let ordered = &mut space[..grants.len()];
-    ordered.copy_from_slice(grants);
-    put_in_order(ordered, clients);
-    for place in 0..names.len() {
-        names[place] = ordered[place].name;
-    }
-}
+use cn_floor::{Floor, Lane};
 
 /// Names clients by a lane with nobody inside that has quota and room for all: as many together as may go on so. Writes
 /// their names.
@@ -109,13 +35,7 @@ fn name_list(
     while named < clients.len() {
         let count = TOGETHER.min(clients.len() - named);
         let run = &clients[named..named + count];
-        let first = lane.grants().len();
-        name_run(floor, lane, run, entry);
-        write_names(
-            &lane.grants()[first..],
-            run,
-            &mut names[named..named + count],
-        );
+        name_run(floor, lane, run, entry, &mut names[named..named + count]);
         named += count;
     }
 }

@@ -1,4 +1,7 @@
-use Rattle.std.proofs.Common.{◌≡◌, ℕ, ◌+◌, ◌-◌, ◌*◌, ◌/◌, ◌%◌, ◌<◌, ◌≤◌, length, arith, sym, ap, ◌∙◌, subst}
+use Rattle.std.proofs.Common.{◌≡◌, ℕ, ◌+◌, ◌-◌, ◌*◌, ◌/◌, ◌%◌, ◌<◌, ◌≤◌, [], List, length, arith, sym, ap, ◌∙◌, subst}
+use Rattle.std.proofs.lemmas.List.{nil_from_length}
+use Rattle.cn_lists.specs.Listed.{gone_too}
+use Rattle.cn_lists.proofs.ByPlace.{dealt-too, none-too}
 use Rattle.cn_lists.proofs.Common.{Network, on}
 use Rattle.cn_lists.proofs.InTurn.{swept-both, swept-first, swept-none}
 use Rattle.cn_lists.proofs.Groups.{length-dealt}
@@ -26,6 +29,13 @@ rest-fit n m r s rest fits = omega arith
 
 pub returns-then-count-eq0-clause-swept : goal.returns-then-count-eq0-clause-swept
 returns-then-count-eq0-clause-swept g t c = swept-none c.args.floor.now.start c.args.seat.now.me.0
+
+pub returns-then-count-eq0-clause-noted : goal.returns-then-count-eq0-clause-noted
+returns-then-count-eq0-clause-noted g t c before gone noted =
+    let none : on c.args.seat.now.me.0.tokens c.args.wire ≡ [] =
+    nil_from_length (on c.args.seat.now.me.0.tokens c.args.wire) (c.requires.many ∙ c.if-count-eq0.true) in
+    subst (λ (n : ℕ → ℕ). g.P.Party.Noted before c.args.seat.now.me.0.grants n c.args.notes.now)
+    (sym (none-too gone) ∙ ap (gone_too gone) (sym none)) noted
 
 pub returns-then-count-eq1-clause-swept : goal.returns-then-count-eq1-clause-swept
 returns-then-count-eq1-clause-swept g t c = swept-first _ c.let_by-end.ensures.together c.pass_all.ensures.swept
@@ -83,9 +93,13 @@ returns-then-count-eq1-clause-left g t c =
     (ap (λ (e : ℕ). e + 2 * c.in-Balancer.balancer + c.output_of-output.result) entries)).1 _ c.pass_all.ensures.left
 
 pub returns-then-count-eq1-clause-noted : goal.returns-then-count-eq1-clause-noted
-returns-then-count-eq1-clause-noted g t c before noted =
+returns-then-count-eq1-clause-noted g t c before gone noted =
     let go = rw c.in-Balancer.is at c.let_by-end.ensures.together in
-    c.pass_all.ensures.noted before (rw (grants-so go) noted)
+    let entries = c.entries.ensures.value ∙ ap (λ (n : Network). n.table.entries) c.requires.network in
+    let next = (goes-by-itself go (c.requires.many ∙ c.if-count-eq1.true) _ c.output_of-output.ensures
+    _ (ap (λ (e : ℕ). e + 2 * c.in-Balancer.balancer + c.output_of-output.result) entries)).0 in
+    subst (λ (es : List (ℕ × ℕ)). g.P.Party.Noted before c.pass_all.new.seat.me.0.grants (gone_too gone es) c.pass_all.new.notes)
+    next.are (c.pass_all.ensures.noted before gone (rw (grants-so go) noted))
 
 pub pass_all-requires-in-Balancer : goal.pass_all-requires-in-Balancer
 pass_all-requires-in-Balancer g t c _ (notes, party) =
@@ -176,9 +190,18 @@ returns-else-count-eq1-clause-left g t c =
     (ap (λ (e : ℕ). e + 2 * c.in-Balancer.balancer + 1) entries) (first-wire _ _ c.in-Balancer.balancer entries)
 
 pub returns-else-count-eq1-clause-noted : goal.returns-else-count-eq1-clause-noted
-returns-else-count-eq1-clause-noted g t c before noted =
+returns-else-count-eq1-clause-noted g t c before gone noted =
     let go = rw c.in-Balancer.is at c.let_by-end.ensures.together in
-    c.pass_all-in-Balancer-2.ensures.noted before (c.pass_all-in-Balancer.ensures.noted before (rw (grants-so go) noted))
+    let entries = c.entries.ensures.value ∙ ap (λ (n : Network). n.table.entries) c.requires.network in
+    let second = second-next go c.output_of-output.result c.output_of-output.ensures
+    _ (ap (λ (e : ℕ). e + 2 * c.in-Balancer.balancer + 1) entries) in
+    let first = first-next go c.output_of-output.result c.output_of-output.ensures c.pass_all-in-Balancer.ensures.left
+    c.pass_all-in-Balancer.ensures.once (ap (λ (e : ℕ). e + 2 * c.in-Balancer.balancer + 1) entries)
+    _ (first-wire _ _ c.in-Balancer.balancer entries) in
+    subst (λ (n : ℕ → ℕ). g.P.Party.Noted before c.pass_all-in-Balancer-2.new.seat.me.0.grants n c.pass_all-in-Balancer-2.new.notes)
+    ((λ i. gone_too (gone_too gone (second.are i)) (first.are i)) ∙ dealt-too gone c.output_of-output.result
+    (on c.args.seat.now.me.0.tokens c.args.wire) (is-low _ _ c.output_of-output.ensures))
+    (c.pass_all-in-Balancer-2.ensures.noted before _ (c.pass_all-in-Balancer.ensures.noted before gone (rw (grants-so go) noted)))
 
 pub leave-requires-clause-high : goal.leave-requires-clause-high
 leave-requires-clause-high g t c =
@@ -193,8 +216,8 @@ pub returns-in-Exit-clause-once : goal.returns-in-Exit-clause-once
 returns-in-Exit-clause-once g t c = (left-by (rw c.in-Exit.is at c.let_by-end.ensures.together)).1
 
 pub returns-in-Exit-clause-noted : goal.returns-in-Exit-clause-noted
-returns-in-Exit-clause-noted g t c before noted =
+returns-in-Exit-clause-noted g t c before gone noted =
     let go = rw c.in-Exit.is at c.let_by-end.ensures.together in
     let width = c.width.ensures.value ∙ ap (λ (n : Network). n.table.width) c.requires.network in
     let begun = c.base.ensures in
-    rw (grants-by go, ← width, ← begun) (c.leave.ensures.noted _ before _ c.requires.many c.requires.party noted)
+    rw (grants-by go, ← width, ← begun) (c.leave.ensures.noted _ before _ gone c.requires.many c.requires.party noted)

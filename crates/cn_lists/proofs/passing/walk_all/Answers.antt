@@ -2,7 +2,7 @@ use Rattle.std.proofs.Common.{◌≡◌, ℕ, ◌+◌, ◌==◌, List, ◌++◌,
 use Rattle.std.proofs.Math.Seq.{take-length}
 use Rattle.cn_lists.proofs.Common.{Grant, Network, Start, StoodInState, View, on, tokens_in}
 use Rattle.cn_floor.proofs.CallerLemmas.{nobody-in, nobody-there}
-use Rattle.cn_lists.specs.Listed.{by_one_entry}
+use Rattle.cn_lists.specs.Listed.{by_one_entry, gone_too}
 use Rattle.cn_lists.proofs.Groups.{placed-many}
 use Rattle.cn_lists.proofs.CameIn.{all-clients, came-once, nobody-stands}
 use Rattle.cn_lists.proofs.Counted.{together-deep, together-steps}
@@ -100,6 +100,8 @@ returns-clause-walked g c =
     }
 
 pub returns-clause-noted : goal.returns-clause-noted
-returns-clause-noted g c before noted =
-    c.pass_all.ensures.noted before (subst (λ (gs : List Grant). g.P.Party.Noted before gs c.args.notes.now)
-    (sym c.come_in-count.ensures.came.grants) noted)
+returns-clause-noted g c before gone noted =
+    subst (λ (es : List (ℕ × ℕ)). g.P.Party.Noted before c.pass_all.new.seat.me.0.grants (gone_too gone es) c.pass_all.new.notes)
+    c.come_in-count.ensures.came.there
+    (c.pass_all.ensures.noted before gone (subst (λ (gs : List Grant). g.P.Party.Noted before gs gone c.args.notes.now)
+    (sym c.come_in-count.ensures.came.grants) noted))

@@ -38,6 +38,6 @@ returns-clause-ok c =
         grew ∙ (λ i. (view i).grants ++ more),
         written-all v.grants more _ (search rules) (omega (arith, many))
             (subst (λ (gs : List Grant). AreWritten v.grants gs c.walk_all.new.notes) grew
-            (c.walk_all.ensures.noted v.grants (record { many = omega arith; each = λ k d low. absurd (omega (arith, low)) }))),
+            (c.walk_all.ensures.noted v.grants (λ _. 0) (record { many = omega arith; each = λ k d low. absurd (omega (arith, low)) }))),
       );
     }

@@ -1,6 +1,5 @@
 use Rattle.std.proofs.Common.{rules, ◌≡◌, ℕ, ◌+◌, ◌-◌, ◌<◌, ◌≤◌, [], ◌∷◌, ◌++◌, List, arith, refl, sym, ap, ◌∙◌, subst}
 use Rattle.std.proofs.Common.{append_assoc, drop, length, map, take}
-use Rattle.std.specs.List.Sorted.{IsPermutation}
 use Rattle.std.proofs.Math.ListN.{drop_of_length-le}
 use Rattle.std.proofs.lemmas.List.{drop-drop, length-map, map-append, take_all}
 use Rattle.std.proofs.lemmas.Slice.{take-put_mid}
@@ -9,20 +8,12 @@ use Rattle.cn_floor.specs.declared.view.Grant.{Grant}
 use Rattle.cn_floor.specs.Lane.{FloorValue, LaneValue}
 use Rattle.cn_floor.specs.Steps.{StoodInState}
 use Rattle.cn_walk.specs.Walks.{WalksAll}
-use Rattle.cn_handles.specs.Many.{AreNamedAtOnce, AreNamedByRuns, AreNamesBy, all_by, by_entry}
+use Rattle.cn_lists.specs.Listed.{AreNamesBy}
+use Rattle.cn_handles.specs.Many.{AreNamedAtOnce, AreNamedByRuns, all_by, by_entry}
 use Rattle.cn_handles.specs.declared.handles.client.Client.{Client}
-use Rattle.cn_handles.proofs.InOrder.{as-many-names, both-named, from-all, longest, new-ones, run-ids, run-length, theirs}
+use Rattle.cn_handles.proofs.InOrder.{as-many-names, both-named, from-all, longest, run-ids, run-length}
 use Rattle.cn_handles.proofs.Listed.{more, take_both}
 use Rattle.cn_handles.proofs.handles.held_lane.in_order.name_list.Goals as goal
-
-pub write_names-requires-clause-theirs : goal.write_names-requires-clause-theirs
-write_names-requires-clause-theirs c =
-    let run : List ℕ = take (c.loop-named.named + c.min-count.result - c.loop-named.named) (drop c.loop-named.named c.args.clients.now) in
-    let (most, grew, for) = c.name_run.ensures.walked.grants in
-    subst (λ (gs : List Grant). IsPermutation run (map (λ (g : Grant). g.client) gs))
-    (sym (new-ones c.grants-first.result.now c.grants.result.now c.loop-named.lane.view.grants most
-    c.grants-first.ensures (c.grants.ensures ∙ grew)))
-    (theirs c.args.entry run most for)
 
 pub loop-named-preserved : goal.loop-named-preserved
 loop-named-preserved c =
@@ -47,12 +38,10 @@ loop-named-preserved c =
     let at_once : AreNamedAtOnce mid last (map (λ (d : Client). d.client) (take n (drop i all))) entry =
     subst (λ (xs : List ℕ). AreNamedAtOnce mid last xs entry) (whole ∙ sym (run-ids entry i n ids)) is.named in
     let (some, grants, earlier) = was.listed in
-    let (most, grew, for) = is.walked.grants in
-    let names : List ℕ = c.write_names.new.names in
-    let later : AreNamesBy most run names =
-    subst (λ (gs : List Grant). AreNamesBy gs run names)
-    (new-ones c.grants-first.result.now c.grants.result.now mid.view.grants most
-    c.grants-first.ensures (c.grants.ensures ∙ grew)) c.write_names.ensures in
+    let names : List ℕ = c.name_run.new.names in
+    let part : length (take (i + n - i) (drop i c.loop-named.names)) ≡ i + n - i =
+    run-length i (i + n - i) c.loop-named.names (omega (arith, few, c.loop-named.auto.names, c.requires.space)) in
+    let (most, grew, later) = is.names (part ∙ sym (run-length i (i + n - i) ids (omega (arith, few)))) in
     let long : i + n ≡ i + length names =
     omega (arith, as-many-names most run names later, ap (λ (xs : List ℕ). length xs) whole, run-length i n ids few) in
     let here : i ≤ length c.loop-named.names = omega (arith, was.few, c.loop-named.auto.names, c.requires.space) in

@@ -1,9 +1,9 @@
-use Rattle.std.proofs.Common.{◌≡◌, ℕ, ◌-◌, ◌<◌, ◌≤◌, ◌++◌, List, drop, length, take}
-use Rattle.cn_floor.specs.declared.view.Grant.{Grant}
+use Rattle.std.proofs.Common.{ℕ, ◌-◌, ◌<◌, ◌≤◌, List, drop, length, take}
 use Rattle.cn_floor.specs.Lane.{LaneValue}
 use Rattle.cn_floor.specs.Steps.{StoodInState}
 use Rattle.cn_walk.specs.Walks.{WalksAll}
-use Rattle.cn_handles.specs.Many.{AreNamedByRuns, AreNamesBy, all_by, by_entry}
+use Rattle.cn_lists.specs.Listed.{HaveNames}
+use Rattle.cn_handles.specs.Many.{AreNamedByRuns, all_by, by_entry}
 use Rattle.cn_handles.proofs.handles.held_lane.in_order.name_list.Given as goal
 
 -- the clients so far are named, by runs, and their names are written
@@ -14,8 +14,7 @@ invariant-loop-named l = record {
   runs : (ns : List ℕ) (new : LaneValue) → AreNamedByRuns ns l.lane new (drop l.named (all_by l.entry l.clients))
       → (ms : List ℕ) × AreNamedByRuns ms l.initial.lane new (all_by l.entry l.clients);
   in_state : 0 < l.named → StoodInState l.initial.lane.home.start l.lane.view;
-  listed : (more : List Grant) × (l.lane.view.grants ≡ l.initial.lane.view.grants ++ more)
-      × AreNamesBy more (take l.named l.clients) (take l.named l.names);
+  listed : HaveNames l.initial.lane.view l.lane.view (take l.named l.clients) (take l.named l.names);
 }
 
 abbrev pub decreases-loop-named : goal.decreases-loop-named
