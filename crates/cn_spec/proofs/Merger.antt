@@ -65,7 +65,9 @@ unfolding tree
 layer-tree level a b p q = elim (cases_lt a b) [ inl h ↦ below h | inr h ↦ above h ]
   where
     above : b ≤ a → layer (tree level a) (tree level b) ≡ tree (suc level) (a + b)
-    above h = (layers-above _ _ (above-tree level a b h p)).0 ∙ ap₂ (λ s t. interleave (tree level s) (tree level t)) (omega arith) (omega arith)
+    above h =
+        (layers-above _ _ (above-tree level a b h p)).0
+        ∙ ap₂ (λ s t. interleave (tree level s) (tree level t)) (omega arith) (omega arith)
 
     below : a < b → layer (tree level a) (tree level b) ≡ tree (suc level) (a + b)
     below h =
