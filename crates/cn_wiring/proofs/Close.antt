@@ -36,7 +36,8 @@ pub Closed-more : (ends : List (Option ℕ)) (exits : List ℕ) (closed : List E
     → Closed ends exits (set closed (get_or exits i 0) (Exit i)) (i + 1)
 Closed-more ends exits closed i h k c =
     let w : ℕ = get_or exits i 0 in
-    let same : set ends w None ≡ ends = rw (← ends_at-loose ends w (let a = h w in let b = times-member exits i k in omega arith)) (set-get_or ends w (Some 0)) in
+    let none = ends_at-loose ends w (let a = h w in let b = times-member exits i k in omega arith) in
+    let same : set ends w None ≡ ends = rw (← none) (set-get_or ends w (Some 0)) in
     let n : length closed ≡ length ends = sym (length-map closed balancer_of) ∙ ap length c.plan in
     let here : w < length closed = let b = exit-below ends exits i h k in omega arith in
     record {

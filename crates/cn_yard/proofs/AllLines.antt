@@ -25,10 +25,8 @@ sum-more n w f g each h =
 pub count-le : (records : List Record) (lines : List Line) (order : ℕ → List ℕ) → IsLinks records lines order → (u : ℕ)
     → u < length lines → count_of lines u ≤ length records
 count-le records lines order is u h =
-    let c = (is.linked.ends u h).count in
     let p = sum-below-part (length lines) u (λ v. length (order v)) h in
-    let a = is.all in
-    omega arith
+    omega (arith, (is.linked.ends u h).count, is.all)
 
 -- ---- all records but one are on their lines
 
@@ -98,7 +96,8 @@ but-none records lines records' lines' order t to is h kept l =
       linked = l;
       within = λ n k. rw (kept.wire n, kept.as_many) (grind (arith, nat_tests, is.within n (rw kept.len at k)));
       there = λ n k. rw (kept.wire n) (let w = cond (eqb n t) to (wire_of records n) in
-          grind (arith, nat_tests, times-append n (order w) (last_of t to w), times-last n t to w, is.off to h, is.there n (rw kept.len at k)));
+          let a = times-append n (order w) (last_of t to w) in
+          grind (arith, nat_tests, times-last n t to w, is.off to h, is.there n (rw kept.len at k)));
       all =
           let more = sum-more (length lines) to (λ u. length (order u)) (λ u. length (put_last order t to u))
           (λ u k. grind (arith, nat_tests, length-append (order u) (last_of t to u))) h in
