@@ -1,6 +1,7 @@
 -- Where nobody is inside, the counts of an epoch can be carried on.
-use Rattle.std.proofs.Common.{◌≡◌, ◌≢◌, ℕ, ◌+◌, ◌<◌, ◌≤◌, Bool, true, false, List, [], ◌∷◌, length, refl, sym, ap, arith, ◌∙◌, inl, inr, ◌&&◌, slice_index}
-use Rattle.cn_core.proofs.Common.{AgreesAfter, Balancer, Carried, End, Event, Exit, IsCore, State, after_carry, carried_by, cases_lt, eq-eqb, inside_in, name_of, nat_lt, ne_eqb, once_below, past, share, state_ledger, ◌==◌}
+use Rattle.std.proofs.Common.{◌≡◌, ◌≢◌, ℕ, ◌+◌, ◌<◌, ◌≤◌, Bool, true, List, [], ◌∷◌, length, refl, sym, ap, arith, ◌∙◌, ◌&&◌, slice_index}
+use Rattle.std.proofs.lemmas.Bool.{cases_Bool}
+use Rattle.cn_core.proofs.Common.{nat_tests, AgreesAfter, Balancer, Carried, End, Event, Exit, IsCore, State, after_carry, carried_by, eq-eqb, inside_in, name_of, nat_lt, once_below, past, share, state_ledger, ◌==◌}
 use Rattle.std.proofs.lemmas.Bool.{eqb-true, lt-ltb, ltb-true}
 use Rattle.cn_spec.specs.Sums.{when}
 use Rattle.cn_spec.specs.declared.limits.TheConstants.{MOST_CARRIED}
@@ -15,26 +16,15 @@ use Rattle.cn_core.proofs.TightLemmas.{on-inside, tight-state}
 
 both-there : (p q : Bool) (n : ℕ) → 1 ≤ when (p && q) n → (p ≡ true) × (q ≡ true)
 both-there true true n h = (refl, refl)
-both-there true false n h = absurd (omega arith)
-both-there false q n h = absurd (omega arith)
+both-there _ _ n h = absurd (omega arith)
 
 no-more : (p q z : Bool) (n : ℕ) → when (p && q) (when z n + 0) ≤ when p (n + 0)
 no-more true true true n = omega arith
-no-more true true false n = omega arith
-no-more true false z n = omega arith
-no-more false q z n = omega arith
+no-more _ _ _ n = omega arith
 
 not-both : (c d : ℕ) → c ≢ d → (p q : Bool) (n : ℕ)
     → when (p && q) (when (0 == c) n + 0) + when (p && q) (when (0 == d) n + 0) ≤ when p (n + 0)
-not-both c d differ p q n = elim (cases_lt 0 c) [
-  | inl l ↦ rw (ne_eqb 0 c (λ e. omega arith)) (omega (arith, no-more p q (0 == d) n, no-more p q false 0, nothing p q))
-  | inr l ↦ rw (ne_eqb 0 d (λ e. differ (omega arith))) (omega (arith, no-more p q (0 == c) n, nothing p q))
-]
-  where
-    nothing : (p q : Bool) → when (p && q) 0 ≡ 0
-    nothing true true = refl
-    nothing true false = refl
-    nothing false q = refl
+not-both c d differ p q n = grind (arith, nat_tests, cases_Bool p, cases_Bool q)
 
 -- ---- the ledger that the next epoch begins with
 

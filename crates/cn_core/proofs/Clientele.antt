@@ -1,6 +1,6 @@
 -- Clients whose tokens stand in a yard: who comes, who moves, who leaves.
-use Rattle.std.proofs.Common.{◌≡◌, ◌≢◌, ℕ, zero, suc, ◌+◌, ◌≤◌, Bool, true, false, cond, nat_eq, eqb, List, [], ◌∷◌, ◌++◌, get_or, map, refl, sym, ap, ◌∙◌, arith, Option, Some, None, inl, inr}
-use Rattle.cn_core.proofs.Common.{On, Position, Walking, cases_eq, count_by, nat_tests, position_in, values_of, with_position}
+use Rattle.std.proofs.Common.{◌≡◌, ◌≢◌, ℕ, zero, suc, ◌+◌, ◌≤◌, Bool, true, false, cond, nat_eq, eqb, List, [], ◌∷◌, ◌++◌, get_or, map, refl, sym, ap, ◌∙◌, arith, Option, Some, None}
+use Rattle.cn_core.proofs.Common.{On, Position, Walking, count_by, nat_tests, position_in, values_of, with_position}
 use Rattle.std.specs.Prelude.{All, IsSome, option_map}
 use Rattle.std.proofs.lemmas.Bool.{eqb-true}
 use Rattle.std.proofs.lemmas.List.{map-append}
@@ -13,6 +13,7 @@ use Rattle.cn_core.specs.declared.position.Position.TheVariants.{Holds}
 use Rattle.cn_core.specs.State.{is_inside}
 use Rattle.cn_yard.proofs.CallerLemmas.{count-push, count-set, times-absent, times-push, times-set}
 use Rattle.cn_core.specs.InsideClients.{IsPlaced, StandsFor, position_by}
+use Rattle.cn_core.proofs.StateLemmas.{count-cons}
 
 -- the table's entries with their positions in the yard
 abbrev pub placed : Lists → List (ℕ × Standing) → List (ℕ × Position)
@@ -21,32 +22,17 @@ placed y names = map (λ e. (e.0, position_by y e.1)) names
 pub position-found : (y : Lists) (names : List (ℕ × Standing)) (client : ℕ)
     → position_in (placed y names) client ≡ option_map (position_by y) (standing_of_client names client)
 position-found y [] client = refl
-position-found y (e ∷ names) client = by (nat_eq client e.0) (position-found y names client)
-  where
-    by : (b : Bool) → position_in (placed y names) client ≡ option_map (position_by y) (standing_of_client names client)
-        → cond b (Some (position_by y e.1)) (position_in (placed y names) client)
-        ≡ option_map (position_by y) (cond b (Some e.1) (standing_of_client names client))
-    by true rest = refl
-    by false rest = rest
+position-found y (e ∷ names) client = grind (arith, nat_tests, position-found y names client)
 
 pub inside-found : (y : Lists) (names : List (ℕ × Standing))
     → count_by is_inside (values_of (placed y names)) ≡ count_by is_walking (values_of names)
 inside-found y [] = refl
 inside-found y ((client, Walking token) ∷ names) =
-    omega (
-      arith,
-      inside-found y names,
-      sum_by-cons (λ p. cond (is_inside p) 1 0) (position_by y (Walking token))
-          (values_of (placed y names)),
-      sum_by-cons (λ s. cond (is_walking s) 1 0) (Walking token) (values_of names),
-    )
+    let a = count-cons is_inside (position_by y (Walking token)) (values_of (placed y names)) in
+    omega (arith, inside-found y names, count-cons is_walking (Walking token) (values_of names))
 inside-found y ((client, Named name) ∷ names) =
-    omega (
-      arith,
-      inside-found y names,
-      sum_by-cons (λ p. cond (is_inside p) 1 0) (position_by y (Named name)) (values_of (placed y names)),
-      sum_by-cons (λ s. cond (is_walking s) 1 0) (Named name) (values_of names),
-    )
+    let a = count-cons is_inside (position_by y (Named name)) (values_of (placed y names)) in
+    omega (arith, inside-found y names, count-cons is_walking (Named name) (values_of names))
 
 -- ---- what a yard that has changed says of a client
 
@@ -135,25 +121,10 @@ placed-one : (y z : Lists) (client token : ℕ) (s : Standing) (p : Position) (n
     → placed z (with_standing names client s) ≡ with_position (placed y names) client p
 placed-one y z client token s p [] spares is all once = refl
 placed-one y z client token s p (e ∷ names) spares is all once =
-    by (nat_eq client e.0) refl (placed-one y z client token s p names spares is (tail y e names all))
-    (placed-others y z client names spares (tail y e names all))
-    (sum_by-cons (λ (x : ℕ × Standing). cond (nat_eq client x.0) 1 0) e names)
-  where
-    by : (b : Bool) → nat_eq client e.0 ≡ b
-        → (count_by (λ x. nat_eq client x.0) names ≤ 1 → placed z (with_standing names client s) ≡ with_position (placed y names) client p)
-        → (count_by (λ x. nat_eq client x.0) names ≡ 0 → placed z names ≡ placed y names)
-        → count_by (λ x. nat_eq client x.0) (e ∷ names) ≡ cond (nat_eq client e.0) 1 0 + count_by (λ x. nat_eq client x.0) names
-        → placed z (cond b ((e.0, s) ∷ names) (e ∷ with_standing names client s))
-        ≡ cond b ((e.0, p) ∷ placed y names) ((e.0, position_by y e.1) ∷ with_position (placed y names) client p)
-    by true here rest others sum =
-        let one : ◌≡◌ {A = ℕ} (cond (nat_eq client e.0) 1 0) 1 = rw here refl in
-        let same = others (omega arith) in
-        rw (is, same) refl
-    by false here rest others sum =
-        let none : ◌≡◌ {A = ℕ} (cond (nat_eq client e.0) 1 0) 0 = rw here refl in
-        let differ : client ≢ e.0 = λ q. let yes : nat_eq client e.0 ≡ true = grind (arith, nat_tests) in cc in
-        let stays = (spares e (all 0 e (omega arith)) differ).0 in
-        rw (stays, rest (omega arith)) refl
+    let spare : client ≢ e.0 → position_by z e.1 ≡ position_by y e.1 = λ d. (spares e (all 0 e (omega arith)) d).0 in
+    let rest = placed-one y z client token s p names spares is (tail y e names all) in
+    let others = placed-others y z client names spares (tail y e names all) in
+    grind (arith, nat_tests, sum_by-cons (λ (x : ℕ × Standing). cond (nat_eq client x.0) 1 0) e names)
 
 stand-one : (y z : Lists) (client : ℕ) (s : Standing) (names : List (ℕ × Standing)) → Spares y z client → StandsFor z client s
     → AllStand y names → count_by (λ e. nat_eq client e.0) names ≤ 1
@@ -182,13 +153,7 @@ stand-one y z client s (e ∷ names) spares is all once =
 with-same : (client : ℕ) (s : Standing) (names : List (ℕ × Standing)) → standing_of_client names client ≡ Some s
     → with_standing names client s ≡ names
 with-same client s [] found = refl
-with-same client s (e ∷ names) found = by (nat_eq client e.0) found (with-same client s names)
-  where
-    by : (b : Bool) → cond b (Some e.1) (standing_of_client names client) ≡ Some s
-        → (standing_of_client names client ≡ Some s → with_standing names client s ≡ names)
-        → cond b ((e.0, s) ∷ names) (e ∷ with_standing names client s) ≡ e ∷ names
-    by true found rest = let its : e.1 ≡ s = cc in rw (sym its) refl
-    by false found rest = ap (λ es. e ∷ es) (rest found)
+with-same client s ((c, t) ∷ names) found = grind (arith, nat_tests, with-same client s names)
 
 -- ---- the changes
 
@@ -294,11 +259,7 @@ undo y z w names client token wire a r is = (
 )
   where
     same : (other : ℕ) → standing w.lists other ≡ standing y.lists other
-    same other = elim (cases_eq other token) [
-      | inl e ↦ let yes : eqb other token ≡ true = grind (arith, nat_tests) in r.standing_now other ∙ rw (yes, e) (sym a.fresh)
-      | inr n ↦ let no : eqb other token ≡ false = grind (arith, nat_tests) in
-          r.standing_now other ∙ rw no (a.standing_now other ∙ rw no refl)
-    ]
+    same other = grind (arith, nat_tests, r.standing_now other, a.standing_now other, a.fresh)
 
     each : (e : ℕ × Standing) → StandsFor y.lists e.0 e.1 → StaysFor y.lists w.lists e
     each e its = by e.1 its

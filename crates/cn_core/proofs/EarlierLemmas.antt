@@ -5,7 +5,6 @@ use Rattle.cn_core.proofs.Common.{Carried, Enter, Event, Exit, IsCore, Network, 
 use Rattle.cn_spec.specs.declared.limits.TheConstants.{MOST_CARRIED, MOST_CLIENTS}
 use Rattle.cn_tables.specs.Network.{IsNetwork}
 use Rattle.cn_tables.specs.Table.{Table}
-use Rattle.cn_core.specs.declared.position.Position.TheVariants.{Holds}
 use Rattle.cn_ledger.specs.declared.reply.EnterFault.TheVariants.{NoSuchEntry, AlreadyIn, EpochFull}
 use Rattle.cn_ledger.specs.declared.reply.Reply.TheVariants.{Entered, EnterRefused}
 use Rattle.cn_core.specs.History.{Agrees, HasOneHolder, AreEpochs, ByHistories, IsHistory, enters_of, is_accepted, step_answer}
@@ -28,9 +27,7 @@ entered-by : (table : Table) (h : List Event) (k : Carried) (client entry : ℕ)
     EpochFull else Entered) ≡ true
     → (beyond ≡ false) × (there ≡ false) × (full ≡ false)
 entered-by table h k client entry false false false e = (refl, refl, refl)
-entered-by table h k client entry true there full e = absurd (cc)
-entered-by table h k client entry false true full e = absurd (cc)
-entered-by table h k client entry false false true e = absurd (cc)
+entered-by table h k client entry _ _ _ e = absurd (cc)
 
 nowhere : (p : Option Position) → is_some p ≡ false → p ≡ None
 nowhere None e = refl
@@ -38,9 +35,8 @@ nowhere (Some p) e = absurd (cc)
 
 stepped-by : (table : Table) (h : List Event) (k : Carried) (p : Option Position) → is_accepted (step_answer table h k p) ≡ true
     → (wire : ℕ) × (p ≡ Some (On wire))
-stepped-by table h k None e = absurd (cc)
-stepped-by table h k (Some (Holds name)) e = absurd (cc)
 stepped-by table h k (Some (On wire)) e = (wire, refl)
+stepped-by table h k _ e = absurd (cc)
 
 module _ (network : Network) (is : IsNetwork network) where
   -- one event more

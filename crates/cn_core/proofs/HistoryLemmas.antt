@@ -2,7 +2,6 @@
 use Rattle.std.proofs.Common.{◌≡◌, ℕ, ◌+◌, ◌<◌, ◌≤◌, cond, nat_eq, List, [], ◌∷◌, length, get_or, refl, ap, arith, Some, None, sym, ◌∙◌, length-append, inl, inr, subst, drop, drop-cons, add-one}
 use Rattle.cn_core.proofs.Common.{AgreesAfter, Balancer, Carried, End, Enter, Event, Exit, IsState, Network, On, Position, State, Step, after_carry, carried_by, count_by, end_of, inside_in, nat_tests, past, position_after, position_in, position_past, start, state_after_enter, state_after_step, values_of, with_position}
 use Rattle.std.proofs.lemmas.Map.{length-set_value}
-use Rattle.std.proofs.lemmas.List.Sums.{sum_by-cons}
 use Rattle.cn_spec.specs.declared.limits.TheConstants.{MOST_CLIENTS}
 use Rattle.cn_spec.proofs.CallerLemmas.{one_more-at, zero_at}
 use Rattle.cn_tables.specs.Table.{Table, is_end}
@@ -15,7 +14,7 @@ use Rattle.cn_core.specs.State.{is_named, is_inside}
 use Rattle.cn_core.specs.History.{leaves_of, inside_of, end_at, is_leave, IsHistory, Agrees, MayAnswerAll, history_after, steps_before}
 use Rattle.cn_core.specs.Calls.{EntersTo, StepsTo, TakesTo, IsLedgerEvent, AnswersByHistory, RunsByHistory, RunsTo}
 use Rattle.cn_yard.proofs.CallerLemmas.{lookup-push, lookup-set, count-push, count-set}
-use Rattle.cn_core.proofs.StateLemmas.{stands-at}
+use Rattle.cn_core.proofs.StateLemmas.{count-cons, stands-at}
 
 pub Agrees-start : (network : Network) → Agrees (start network) [] []
 Agrees-start network = (
@@ -55,11 +54,10 @@ pub past-state_after_step : (s : State) (client wire : ℕ) (end other : End) �
 past-state_after_step s client wire (Balancer b) (Balancer a) is within ends =
     let there : b < s.network.table.balancers = stands-at s.network is.network wire (Balancer b) within ends in
     grind (arith, nat_tests, one_more-at s.passes b a, is.balancers)
-past-state_after_step s client wire (Balancer b) (Exit i) is within ends = omega arith
-past-state_after_step s client wire (Exit i) (Balancer b) is within ends = omega arith
 past-state_after_step s client wire (Exit i) (Exit j) is within ends =
     let there : i < s.network.table.width = stands-at s.network is.network wire (Exit i) within ends in
     grind (arith, nat_tests, one_more-at s.visits i j, is.exits)
+past-state_after_step s client wire _ _ is within ends = omega arith
 
 pub network-state_after_step : (s : State) (client : ℕ) (end : End) → (state_after_step s client end).network ≡ s.network
 network-state_after_step s client (Balancer b) = refl
@@ -134,8 +132,7 @@ history-enter old client entry (EnterRefused EpochFull) new is (within, absent, 
     (inl (grind (arith, nat_tests, a.1.positions client, a.1.total)), rw e a)
 history-enter old client entry (EnterRefused Memory) new is (within, absent, room, e) h earlier a =
     (inr (grind (arith, nat_tests, a.1.positions client, a.1.total), refl), rw e a)
-history-enter old client entry (Stepped moved) new is none h earlier a = absurd none
-history-enter old client entry (StepRefused fault) new is none h earlier a = absurd none
+history-enter old client entry _ new is none h earlier a = absurd none
 
 pub Agrees-state_after_step : (s : State) (h : List Event) (earlier : List (List Event)) (client wire : ℕ) (end : End) → IsState s
     → position_in s.clients client ≡ Some (On wire) → end_of s.network.table wire ≡ end
@@ -153,8 +150,7 @@ history-step old client (Stepped moved) new is (wire, on, m, e) h earlier a = (
 )
 history-step old client (StepRefused Stranger) new is (none, e) h earlier a = (inl (rw (← a.1.positions client, none) refl), rw e a)
 history-step old client (StepRefused (HasName name)) new is (named, e) h earlier a = (inl (rw (← a.1.positions client, named) refl), rw e a)
-history-step old client Entered new is none h earlier a = absurd none
-history-step old client (EnterRefused fault) new is none h earlier a = absurd none
+history-step old client _ new is none h earlier a = absurd none
 
 -- a run is an answer and the run of the rest
 pub runs-cons : (old mid new : State) (c : Event) (cs : List Event) (r : Reply) (rs : List Reply)
@@ -190,19 +186,11 @@ pub inside-or-named : (clients : List (ℕ × Position))
     → count_by is_inside (values_of clients) + count_by is_named (values_of clients) ≡ length clients
 inside-or-named [] = refl
 inside-or-named ((c, On wire) ∷ rest) =
-    omega (
-      arith,
-      inside-or-named rest,
-      sum_by-cons (λ (p : Position). cond (is_inside p) 1 0) (On wire) (values_of rest),
-      sum_by-cons (λ (p : Position). cond (is_named p) 1 0) (On wire) (values_of rest),
-    )
+    let a = count-cons is_inside (On wire) (values_of rest) in let b = count-cons is_named (On wire) (values_of rest) in
+    omega (arith, inside-or-named rest)
 inside-or-named ((c, Holds name) ∷ rest) =
-    omega (
-      arith,
-      inside-or-named rest,
-      sum_by-cons (λ (p : Position). cond (is_inside p) 1 0) (Holds name) (values_of rest),
-      sum_by-cons (λ (p : Position). cond (is_named p) 1 0) (Holds name) (values_of rest),
-    )
+    let a = count-cons is_inside (Holds name) (values_of rest) in let b = count-cons is_named (Holds name) (values_of rest) in
+    omega (arith, inside-or-named rest)
 
 pub inside-by_history : (s : State) (h : List Event) (k : Carried) → AgreesAfter s h k → inside_in s ≡ inside_of s.network.table h k
 inside-by_history s h k a = omega (arith, inside-or-named s.clients, a.total, a.left)
@@ -232,18 +220,12 @@ pub came-after : (old new : State) (event : Event) (reply : Reply) → TakesTo o
     → new.base + length new.clients ≤ old.base + length old.clients + 1
 came-after old new (Enter client entry) Entered (within, absent, room, e) =
     rw e (omega (arith, length-append old.clients ((client, On entry) ∷ [])))
-came-after old new (Enter client entry) (EnterRefused NoSuchEntry) (beyond, e) = rw e (omega arith)
-came-after old new (Enter client entry) (EnterRefused AlreadyIn) (within, there, e) = rw e (omega arith)
-came-after old new (Enter client entry) (EnterRefused EpochFull) (within, absent, full, e) = rw e (omega arith)
-came-after old new (Enter client entry) (EnterRefused Memory) (within, absent, room, e) = rw e (omega arith)
-came-after old new (Enter client entry) (Stepped moved) none = absurd none
-came-after old new (Enter client entry) (StepRefused fault) none = absurd none
 came-after old new (Step client) (Stepped moved) (wire, on, m, e) =
     let end : End = end_of old.network.table wire in
     let same = ap length (clients-state_after_step old client end)
     ∙ length-set_value (nat_eq client) old.clients (position_past old.network.table old.base end (past old end)) in
     rw e (omega (arith, base-state_after_step old client end))
+came-after old new (Enter client entry) (EnterRefused NoSuchEntry) (beyond, e) = rw e (omega arith)
 came-after old new (Step client) (StepRefused Stranger) (none, e) = rw e (omega arith)
 came-after old new (Step client) (StepRefused (HasName name)) (named, e) = rw e (omega arith)
-came-after old new (Step client) Entered none = absurd none
-came-after old new (Step client) (EnterRefused fault) none = absurd none
+came-after old new _ _ takes = grind arith

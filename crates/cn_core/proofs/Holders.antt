@@ -1,6 +1,6 @@
 -- The clients of a quiet state, listed by the names that they hold.
-use Rattle.std.proofs.Common.{◌≡◌, ℕ, zero, suc, ◌+◌, ◌-◌, ◌<◌, ◌≤◌, Bool, true, false, cond, nat_eq, List, [], ◌∷◌, length, get_or, map, refl, sym, ap, ap₂, subst, ◌∙◌, arith, zero-add, Some, inl, inr}
-use Rattle.cn_core.proofs.Common.{IsCore, On, Position, State, Walking, count_by, eq-eqb, inside_in, position_in, positions, values_of}
+use Rattle.std.proofs.Common.{◌≡◌, ℕ, zero, suc, ◌+◌, ◌-◌, ◌<◌, ◌≤◌, cond, nat_eq, List, [], ◌∷◌, length, get_or, map, refl, sym, ap, ap₂, subst, ◌∙◌, arith, zero-add, Some, inl, inr}
+use Rattle.cn_core.proofs.Common.{nat_tests, IsCore, On, Position, State, Walking, count_by, eq-eqb, inside_in, position_in, positions, values_of}
 use Rattle.std.specs.Prelude.{AllPairs, Contains}
 use Rattle.std.specs.Map.{keys_of}
 use Rattle.std.specs.List.{range_with_len, sum_by}
@@ -20,6 +20,7 @@ use Rattle.cn_core.specs.State.{is_inside, name_at, times_entered}
 use Rattle.cn_core.specs.Tight.{ListsStateHolders, grants_of_clients}
 use Rattle.cn_core.proofs.Clientele.{placed}
 use Rattle.cn_core.proofs.TightLemmas.{tight-state}
+use Rattle.cn_core.proofs.StateLemmas.{count-cons}
 
 -- ---- a rising order of consecutive numbers
 
@@ -99,39 +100,29 @@ keys-granted ((client, Holds name) ∷ clients) none =
 times-keys : (client : ℕ) (clients : List (ℕ × Position)) → count_by (nat_eq client) (keys_of clients) ≡ times_entered client clients
 times-keys client [] = refl
 times-keys client (e ∷ clients) =
-    omega (
-      arith,
-      times-keys client clients,
-      sum_by-cons (λ (k : ℕ). cond (nat_eq client k) 1 0) e.0 (keys_of clients),
-      sum_by-cons (λ (x : ℕ × Position). cond (nat_eq client x.0) 1 0) e clients,
-    )
+    let key = count-cons (nat_eq client) e.0 (keys_of clients) in
+    omega (arith, times-keys client clients, count-cons (λ x. nat_eq client x.0) e clients)
 
 -- whoever is found is in the list
 found-times : (client : ℕ) (clients : List (ℕ × Position)) (p : Position) → position_in clients client ≡ Some p
     → 1 ≤ times_entered client clients
 found-times client [] p found = cc
-found-times client (e ∷ clients) p found = by (nat_eq client e.0) refl found (found-times client clients p)
-  where
-    by : (b : Bool) → nat_eq client e.0 ≡ b → cond b (Some e.1) (position_in clients client) ≡ Some p
-        → (position_in clients client ≡ Some p → 1 ≤ times_entered client clients) → 1 ≤ times_entered client (e ∷ clients)
-    by true here found rest =
-        let one : ◌≡◌ {A = ℕ} (cond (nat_eq client e.0) 1 0) 1 = rw here refl in
-        omega (arith, sum_by-cons (λ (x : ℕ × Position). cond (nat_eq client x.0) 1 0) e clients)
-    by false here found rest = omega (arith, rest found, sum_by-cons (λ (x : ℕ × Position). cond (nat_eq client x.0) 1 0) e clients)
+found-times client (e ∷ clients) p found = grind (
+  arith,
+  nat_tests,
+  found-times client clients p,
+  count-cons (λ x. nat_eq client x.0) e clients,
+)
 
 -- a client that is in the list once is found behind another
 found-later : (client : ℕ) (e : ℕ × Position) (clients : List (ℕ × Position)) (p : Position) → times_entered client (e ∷ clients) ≤ 1
     → (times_entered client clients ≤ 1 → position_in clients client ≡ Some p) → position_in (e ∷ clients) client ≡ Some p
-found-later client e clients p once later = by (nat_eq client e.0) refl
-  where
-    sum : times_entered client (e ∷ clients) ≡ cond (nat_eq client e.0) 1 0 + times_entered client clients
-    sum = sum_by-cons (λ (x : ℕ × Position). cond (nat_eq client x.0) 1 0) e clients
-
-    by : (b : Bool) → nat_eq client e.0 ≡ b → cond b (Some e.1) (position_in clients client) ≡ Some p
-    by true here =
-        let one : ◌≡◌ {A = ℕ} (cond (nat_eq client e.0) 1 0) 1 = rw here refl in
-        absurd (omega (arith, sum, found-times client clients p (later (omega (arith, sum)))))
-    by false here = later (omega (arith, sum))
+found-later client e clients p once later = grind (
+  arith,
+  nat_tests,
+  found-times client clients p,
+  count-cons (λ x. nat_eq client x.0) e clients,
+)
 
 -- a grant of the table is the position of its client
 holder-found : (y : Lists) (names : List (ℕ × Standing)) (name client : ℕ) → times_entered client (placed y names) ≤ 1

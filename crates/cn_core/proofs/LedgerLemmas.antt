@@ -1,7 +1,7 @@
 -- Each event of a core is an event of its ledger, and so its ledger is sound.
-use Rattle.std.proofs.Common.{◌≡◌, ℕ, ◌+◌, ◌<◌, Bool, true, false, List, [], ◌∷◌, length, refl, ap, arith, Some, None, sym, ◌∙◌, inl, inr, ◌&&◌}
-use Rattle.cn_core.proofs.Common.{AgreesAfter, Balancer, Carried, End, Enter, Event, Exit, IsCore, IsState, Network, On, State, Step, carried_by, cases_lt, end_of, name_of, nat_lt, once_below, past, position_in, share, start, state_after_enter, state_after_step, state_ledger, ◌==◌}
-use Rattle.std.proofs.lemmas.Bool.{lt-ltb, le-ltb}
+use Rattle.std.proofs.Common.{◌≡◌, ℕ, ◌+◌, ◌<◌, List, [], ◌∷◌, length, refl, ap, arith, Some, None, sym, ◌∙◌, ◌&&◌}
+use Rattle.cn_core.proofs.Common.{nat_tests, AgreesAfter, Balancer, Carried, End, Enter, Event, Exit, IsCore, IsState, Network, On, State, Step, carried_by, end_of, name_of, nat_lt, once_below, past, position_in, share, start, state_after_enter, state_after_step, state_ledger, ◌==◌}
+use Rattle.std.proofs.lemmas.Bool.{le-ltb}
 use Rattle.cn_spec.specs.Sums.{when}
 use Rattle.cn_spec.specs.declared.limits.TheConstants.{MOST_CLIENTS}
 use Rattle.cn_spec.proofs.CallerLemmas.{zero_at}
@@ -77,22 +77,11 @@ IsCore-start network is = record {
 
     given : (end : End) (n : ℕ) → given_in_state (start network) [] (carried_by network.table []) end n ≡ 0
     given (Balancer b) n = omega (arith, none-below 0 n refl)
-    given (Exit i) v = elim (cases_lt i network.table.width) [
-      | inl within ↦ rw (lt-ltb i network.table.width within) (omega (arith, before i v within))
-      | inr beyond ↦ rw (le-ltb i network.table.width beyond) refl
-    ]
+    given (Exit i) v = grind (arith, nat_tests, before i v)
 
     granted : (c i v name : ℕ) → when (nat_lt i network.table.width && (name_of network.table.width i v == name))
         (when (0 == c) (given_before (start network) i v) + 0) ≡ 0
-    granted c i v name = elim (cases_lt i network.table.width) [
-      | inl within ↦ rw (before i v within) (cond-zero (nat_lt i network.table.width && (name_of network.table.width i v == name)) (0 == c))
-      | inr beyond ↦ rw (le-ltb i network.table.width beyond) refl
-    ]
-      where
-        cond-zero : (b d : Bool) → when b (when d 0 + 0) ≡ 0
-        cond-zero true true = refl
-        cond-zero true false = refl
-        cond-zero false d = refl
+    granted c i v name = grind (arith, nat_tests, before i v)
 
 pub IsCore-state_after_enter : (s : State) (client entry : ℕ) → IsCore s → entry < s.network.table.entries
     → position_in s.clients client ≡ None → length s.clients < MOST_CLIENTS

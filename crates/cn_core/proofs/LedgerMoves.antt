@@ -1,6 +1,7 @@
 -- A client that enters, or passes a balancer, is an event of the ledger.
-use Rattle.std.proofs.Common.{◌≡◌, ℕ, ◌+◌, ◌<◌, Bool, true, false, cond, nat_eq, List, ◌∷◌, length, refl, ap, arith, Option, Some, sym, ◌∙◌, slice_index, inl, inr, ◌&&◌, eqb, add-zero}
-use Rattle.cn_core.proofs.Common.{AgreesAfter, Balancer, Carried, End, Enter, Event, Exit, IsState, On, Position, State, Step, cases_eq, count_by, end_of, name_of, nat_lt, ne_eqb, past, position_after, position_in, position_past, state_after_enter, state_after_step, state_ledger, values_of, with_position, ◌==◌}
+use Rattle.std.proofs.Common.{◌≡◌, ℕ, ◌+◌, ◌<◌, Bool, true, false, cond, nat_eq, List, ◌∷◌, length, refl, ap, arith, Option, Some, sym, ◌∙◌, slice_index, ◌&&◌, eqb, add-zero}
+use Rattle.std.proofs.Math.Bool.{and-false, and_comm}
+use Rattle.cn_core.proofs.Common.{nat_tests, AgreesAfter, Balancer, Carried, End, Enter, Event, Exit, IsState, On, Position, State, Step, count_by, end_of, name_of, nat_lt, past, position_after, position_in, position_past, state_after_enter, state_after_step, state_ledger, values_of, with_position, ◌==◌}
 use Rattle.cn_spec.specs.Sums.{when}
 use Rattle.cn_spec.proofs.CallerLemmas.{one_more-at}
 use Rattle.cn_tables.specs.Table.{is_end}
@@ -12,12 +13,6 @@ use Rattle.cn_core.proofs.StateLemmas.{given_before}
 use Rattle.cn_core.proofs.HistoryLemmas.{past-state_after_step}
 use Rattle.cn_ledger.proofs.CallerLemmas.{eqb-sym, is_end-sym}
 
-and-sym : (a b : Bool) → (a && b) ≡ (b && a)
-and-sym true true = refl
-and-sym true false = refl
-and-sym false true = refl
-and-sym false false = refl
-
 pub ledger-enters : (s : State) (h : List Event) (k : Carried) (client entry : ℕ) → IsState s → entry < s.network.table.entries
     → Enters s.network.table (state_ledger s h k) (state_ledger (state_after_enter s client entry) (Enter client entry ∷ h) k) client entry
 ledger-enters s h k client entry is within = record {
@@ -28,7 +23,7 @@ ledger-enters s h k client entry is within = record {
   on = λ wire. count-push (is_on wire) s.clients client (On entry);
   standing = λ wire d. count-pair-push (is_on wire) d s.clients client (On entry)
       ∙ ap (λ (b : Bool). count_by (λ e. nat_eq d e.0 && is_on wire e.1) s.clients + cond b 1 0)
-      (and-sym (nat_eq d client) (entry == wire) ∙ ap (λ (b : Bool). (entry == wire) && b) (eqb-sym d client));
+      (and_comm (nat_eq d client) (entry == wire) ∙ ap (λ (b : Bool). (entry == wire) && b) (eqb-sym d client));
   given = given;
   granted = λ d i v name. ap (λ (n : ℕ). when (nat_lt i s.network.table.width && (name_of s.network.table.width i v == name))
       (when (0 == d) (given_before s i v) + n))
@@ -58,7 +53,7 @@ pub standing-after : (s : State) (client wire : ℕ) (to : Position) (u d : ℕ)
     ≡ count_by (λ e. nat_eq d e.0 && is_on u e.1) s.clients + when (client == d) (when (is_on u to) 1)
 standing-after s client wire to u d on =
     let flip : (nat_eq d client && (wire == u)) ≡ ((wire == u) && (client == d)) =
-    and-sym (nat_eq d client) (wire == u) ∙ ap (λ (b : Bool). (wire == u) && b) (eqb-sym d client) in
+    and_comm (nat_eq d client) (wire == u) ∙ ap (λ (b : Bool). (wire == u) && b) (eqb-sym d client) in
     let after : cond (nat_eq d client && is_on u to) 1 0 ≡ when (client == d) (when (is_on u to) 1) =
     both (nat_eq d client) (is_on u to) ∙ ap (λ (b : Bool). when b (when (is_on u to) 1)) (eqb-sym d client) in
     omega (arith, count-pair-set (is_on u) d s.clients client to (On wire) on, ap {B = ℕ} (λ b. cond b 1 0) flip, after)
@@ -94,10 +89,6 @@ held-pair-after s name client wire to d on =
     none true = refl
     none false = refl
 
-pub and-false : (b : Bool) → (b && false) ≡ false
-and-false true = refl
-and-false false = refl
-
 pub ledger-passes : (s : State) (h : List Event) (k : Carried) (client wire b : ℕ) → IsState s
     → position_in s.clients client ≡ Some (On wire) → end_of s.network.table wire ≡ Balancer b → AgreesAfter s h k
     → Passes s.network.table (state_ledger s h k) (state_ledger (state_after_step s client (Balancer b)) (Step client ∷ h) k) client wire b
@@ -124,16 +115,7 @@ ledger-passes s h k client wire b is on ends a = record {
     given : (other : End) (n : ℕ) → given_in_state (state_after_step s client (Balancer b)) (Step client ∷ h) k other n
         ≡ given_in_state s h k other n + when (is_end (Balancer b) other && (slice_index s.passes b == n)) 1
     given (Balancer c) n =
-        let passed = passed-after s h k client wire (Balancer b) on ends a c n in
-        let m : ℕ = steps_before s.network.table h k (Balancer c) in
-        let here : ((b == c) && eqb m n) ≡ ((c == b) && (slice_index s.passes b == n)) =
-        elim (cases_eq b c) [
-          | inl same ↦ λ i. eqb-sym b c i && eqb ((sym (a.counts (Balancer c)) ∙ ap (λ (x : ℕ). slice_index s.passes x) (sym same)) i) n
-          | inr other ↦
-              ap (λ (q : Bool). q && eqb m n) (ne_eqb b c other)
-              ∙ sym (ap (λ (q : Bool). q && (slice_index s.passes b == n)) (eqb-sym c b ∙ ne_eqb b c other))
-        ] in
-        omega (arith, passed, ap {B = ℕ} (λ (q : Bool). cond q 1 0) here)
+        grind (arith, nat_tests, passed-after s h k client wire (Balancer b) on ends a c n, a.counts (Balancer c))
     given (Exit i) v =
         ap (λ (n : ℕ). when (nat_lt i s.network.table.width) (given_before s i v + n))
         (held-after s (name_of s.network.table.width i v) client wire to on

@@ -1,7 +1,7 @@
 -- No two clients hold one name: by any history, whether its events were accepted or not, after what is carried.
-use Rattle.std.proofs.Common.{◌≡◌, ℕ, ◌+◌, ◌-◌, ◌%◌, ◌/◌, ◌<◌, ◌≤◌, inl, inr, List, [], ◌∷◌, length, refl, ap, arith, sym, ◌∙◌, Option, Some, None}
+use Rattle.std.proofs.Common.{◌≡◌, ℕ, ◌+◌, ◌-◌, ◌%◌, ◌/◌, ◌<◌, ◌≤◌, inl, inr, List, [], ◌∷◌, length, refl, ap, arith, sym, ◌∙◌, Option, Some}
 use Rattle.std.specs.Option.{option_map}
-use Rattle.cn_core.proofs.Common.{Balancer, Carried, End, Enter, Event, Exit, Network, On, Position, Step, cases_eq, cases_lt, end_of, eq-eqb, name_of, ne_eqb, position_after, position_past}
+use Rattle.cn_core.proofs.Common.{nat_tests, Balancer, Carried, End, Enter, Event, Exit, Network, On, Position, Step, cases_eq, cases_lt, end_of, eq-eqb, name_of, ne_eqb, position_after, position_past}
 use Rattle.std.proofs.lemmas.List.{get_or_past}
 use Rattle.cn_spec.proofs.CallerLemmas.{exit_of-name_of, name-below}
 use Rattle.cn_tables.specs.Network.{IsNetwork}
@@ -23,11 +23,8 @@ module _ (network : Network) (carried : Carried) (is : IsNetwork network) (share
       → carried.enters ≤ name_of network.table.width i (steps_before network.table h carried (Exit i))
   late h i within =
       let v : ℕ = steps_before network.table h carried (Exit i) in
-      elim (cases_lt (name_of network.table.width i v) carried.enters) [
-        | inl less ↦ absurd (let early = (name-below carried.enters network.table.width i v within).1 less in
-            omega (arith, shares i within, steps-rise network.table h carried (Exit i)))
-        | inr beyond ↦ beyond
-      ]
+      let early = (name-below carried.enters network.table.width i v within).1 in
+      grind (arith, shares i within, steps-rise network.table h carried (Exit i))
 
   exit-below : (wire i : ℕ) → end_of network.table wire ≡ Exit i → i < network.table.width
   exit-below wire i e = elim (cases_lt wire (length network.table.ends)) [
@@ -45,8 +42,6 @@ module _ (network : Network) (carried : Carried) (is : IsNetwork network) (share
   left : (h : List Event) (p : Option Position) (name : ℕ)
       → option_map (λ end. position_past network.table carried.enters end (steps_before network.table h carried end))
       (end_at network.table p) ≡ Some (Holds name) → Left h p name
-  left h None name e = absurd (cc)
-  left h (Some (Holds other)) name e = absurd (cc)
   left h (Some (On wire)) name e = by (end_of network.table wire) refl e
     where
       by : (end : End) → end_of network.table wire ≡ end
@@ -60,6 +55,7 @@ module _ (network : Network) (carried : Carried) (is : IsNetwork network) (share
         named = let known : name_of network.table.width i (steps_before network.table h carried (Exit i)) - carried.enters ≡ name = cc in
             omega (arith, late h i (exit-below wire i ends));
       }
+  left h _ name e = absurd (cc)
 
   -- what a step does to the positions: it changes only its client's
   mine : (h : List Event) (b name : ℕ) → position_after network.table (Step b ∷ h) carried b ≡ Some (Holds name)
@@ -71,10 +67,7 @@ module _ (network : Network) (carried : Carried) (is : IsNetwork network) (share
       → (name + carried.enters) / network.table.width
       < steps_before network.table h carried (Exit ((name + carried.enters) % network.table.width))
   given [] c name e = absurd (cc)
-  given (Enter b entry ∷ h) c name e = elim (cases_eq c b) [
-    | inl same ↦ absurd (let z = eq-eqb c b same in cc)
-    | inr other ↦ given h c name (rw (ne_eqb c b other) at e)
-  ]
+  given (Enter b entry ∷ h) c name e = grind (arith, nat_tests, given h c name)
   given (Step b ∷ h) c name e = elim (cases_eq c b) [
     | inl same ↦
         let l = mine h b name (rw same at e) in
@@ -95,13 +88,7 @@ module _ (network : Network) (carried : Carried) (is : IsNetwork network) (share
 
   pub one-holder : (h : List Event) → HasOneHolder network.table h carried
   one-holder [] c d name e f = absurd (cc)
-  one-holder (Enter b entry ∷ h) c d name e f = elim (cases_eq c b) [
-    | inl same ↦ absurd (let z = eq-eqb c b same in cc)
-    | inr other ↦ elim (cases_eq d b) [
-      | inl same ↦ absurd (let z = eq-eqb d b same in cc)
-      | inr another ↦ one-holder h c d name (rw (ne_eqb c b other) at e) (rw (ne_eqb d b another) at f)
-    ]
-  ]
+  one-holder (Enter b entry ∷ h) c d name e f = grind (arith, nat_tests, one-holder h c d name)
   one-holder (Step b ∷ h) c d name e f = elim (cases_eq c b) [
     | inl same ↦ elim (cases_eq d b) [
       | inl also ↦ same ∙ sym also

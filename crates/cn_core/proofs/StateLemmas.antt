@@ -1,8 +1,9 @@
 -- Each event keeps what each state keeps.
-use Rattle.std.proofs.Common.{◌≡◌, ℕ, ◌+◌, ◌*◌, ◌%◌, ◌<◌, ◌≤◌, nat_eq, inl, inr, List, [], ◌∷◌, ◌++◌, length, arith, Some, None, ◌∙◌, slice_index, length-set, length-append, subst, ap}
+use Rattle.std.proofs.Common.{Bool, cond, ◌≡◌, ℕ, ◌+◌, ◌*◌, ◌%◌, ◌<◌, ◌≤◌, nat_eq, List, [], ◌∷◌, ◌++◌, length, arith, Some, None, ◌∙◌, slice_index, length-set, length-append, subst, ap}
 use Rattle.std.specs.Prelude.{replicate}
-use Rattle.cn_core.proofs.Common.{Balancer, End, Exit, IsState, Network, On, Position, State, after_carry, cases_lt, end_of, name_of, nat_tests, once_below, position_in, position_past, share, start, state_after_enter, state_after_step}
+use Rattle.cn_core.proofs.Common.{Balancer, End, Exit, IsState, count_by, Network, On, Position, State, after_carry, end_of, name_of, nat_tests, once_below, position_in, position_past, share, start, state_after_enter, state_after_step}
 use Rattle.std.proofs.lemmas.List.{length-replicate}
+use Rattle.std.proofs.lemmas.List.Sums.{sum_by-cons}
 use Rattle.std.proofs.lemmas.Map.{length-set_value}
 use Rattle.cn_spec.specs.declared.limits.TheConstants.{MOST_CARRIED, MOST_CLIENTS}
 use Rattle.cn_spec.proofs.CallerLemmas.{name-below, one_more-at, sum-below-change, sum-below-zero, zero_at}
@@ -11,6 +12,9 @@ use Rattle.cn_tables.specs.Table.{Stands, LeadsOn}
 use Rattle.cn_tables.specs.Network.{IsNetwork}
 use Rattle.cn_core.specs.State.{came_in, times_entered}
 use Rattle.cn_yard.proofs.CallerLemmas.{lookup-push, lookup-set, times-push, times-absent, times-set}
+
+pub count-cons : {X : Type 0} (p : X → Bool) (x : X) (xs : List X) → count_by p (x ∷ xs) ≡ cond (p x) 1 0 + count_by p xs
+count-cons p x xs = sum_by-cons (λ y. cond (p y) 1 0) x xs
 
 -- how often the name of a visit of an exit was given in earlier epochs: they gave each exit its share of the base
 abbrev pub given_before : State → ℕ → ℕ → ℕ
@@ -118,10 +122,7 @@ IsState-state_after_step s client wire (Exit i) is on ends = record {
 
 -- of nobody each exit's share is nothing
 pub share-zero : (w i : ℕ) → i < w → share 0 w i ≡ 0
-share-zero w i within = elim (cases_lt 0 (share 0 w i)) [
-  | inl some ↦ let below = (name-below 0 w i 0 within).0 some in absurd (omega arith)
-  | inr none ↦ omega arith
-]
+share-zero w i within = grind (arith, (name-below 0 w i 0 within).0)
 
 pub IsState-start : (network : Network) → IsNetwork network → IsState (start network)
 IsState-start network is = record {
@@ -156,8 +157,5 @@ IsState-after_carry s is room shared = record {
 -- the next name of an exit is none of those that were given before the epoch
 pub name-later : (s : State) → IsState s → (i : ℕ) → i < s.network.table.width
     → s.base ≤ name_of s.network.table.width i (slice_index s.visits i)
-name-later s is i within = elim (cases_lt (name_of s.network.table.width i (slice_index s.visits i)) s.base) [
-  | inr later ↦ later
-  | inl before ↦ let low = (name-below s.base s.network.table.width i (slice_index s.visits i) within).1 before in
-      absurd (omega (arith, is.shares i within))
-]
+name-later s is i within =
+    grind (arith, is.shares i within, (name-below s.base s.network.table.width i (slice_index s.visits i) within).1)

@@ -1,9 +1,8 @@
 -- What a core has given out: at any time, and when nobody is inside.
-use Rattle.std.proofs.Common.{◌≡◌, ℕ, ◌+◌, ◌%◌, ◌/◌, ◌<◌, inl, inr, ◌≤◌, Bool, true, false, cond, nat_eq, List, [], ◌∷◌, length, map, refl, ap, arith, Option, Some, None, sym, ◌∙◌, slice_index}
-use Rattle.cn_core.proofs.Common.{End, IsCore, IsState, On, Position, State, carried_by, cases_eq, cases_lt, count_by, eq-eqb, inside_in, name_of, ne_eqb, once_below, past, position_in, share, state_ledger, values_of, ◌==◌}
-use Rattle.std.proofs.lemmas.Bool.{le-ltb, lt-ltb}
+use Rattle.std.proofs.Common.{◌≡◌, ℕ, ◌+◌, ◌%◌, ◌/◌, ◌<◌, ◌≤◌, cond, nat_eq, List, [], ◌∷◌, length, map, refl, ap, arith, Option, Some, slice_index}
+use Rattle.cn_core.proofs.Common.{nat_tests, End, IsCore, IsState, On, Position, State, carried_by, count_by, eq-eqb, inside_in, name_of, once_below, past, position_in, share, state_ledger, values_of, ◌==◌}
+use Rattle.std.proofs.lemmas.Bool.{lt-ltb}
 use Rattle.std.proofs.lemmas.Nat.{mod_below}
-use Rattle.std.proofs.lemmas.List.Sums.{sum_by-cons}
 use Rattle.cn_spec.specs.Sums.{times}
 use Rattle.cn_spec.proofs.CallerLemmas.{each_below, name-below, name_of-exit_of, sum-below-part, times-cons, times-nil}
 use Rattle.cn_spec.specs.declared.limits.TheConstants.{MOST_ARRIVALS}
@@ -16,12 +15,11 @@ use Rattle.cn_core.specs.Tight.{grants_of_clients, IsTightState, IsBoundedState}
 use Rattle.cn_ledger.proofs.CallerLemmas.{bounded, counts-few, names-differ, tight}
 use Rattle.cn_yard.proofs.CallerLemmas.{count-pair-found}
 use Rattle.cn_core.proofs.HistoryLemmas.{inside-or-named}
-use Rattle.cn_core.proofs.StateLemmas.{given_before}
+use Rattle.cn_core.proofs.StateLemmas.{count-cons, given_before}
 
 named-position : (p : Option Position) (name : ℕ) → name_at p ≡ Some name → p ≡ Some (Holds name)
-named-position None name e = absurd (cc)
-named-position (Some (On wire)) name e = absurd (cc)
 named-position (Some (Holds other)) name e = ap (λ n. Some (Holds n)) (let same : other ≡ name = cc in same)
+named-position _ name e = absurd (cc)
 
 -- who holds a name was granted it, with the base
 granted-name : (s : State) → IsState s → (client name : ℕ) → name_in s client ≡ Some name
@@ -50,8 +48,7 @@ bounded-state s is =
       ends = counts-few s.network.table is.state.network.formed l sound;
       below = λ client name e.
           let n : ℕ = name + s.base in
-          let few = b.names client (n % w) (n / w) n (granted-name s is.state client name e) in
-          omega (arith, is.state.all);
+          omega (arith, b.names client (n % w) (n / w) n (granted-name s is.state client name e), is.state.all);
       distinct = λ client other name e f.
           let n : ℕ = name + s.base in
           (names-differ s.network.table l sound client other (n % w) (n % w) (n / w) (n / w) n n
@@ -62,85 +59,46 @@ bounded-state s is =
 pub on-inside : (u : ℕ) (clients : List (ℕ × Position)) → count_by (is_on u) (values_of clients) ≤ count_by is_inside (values_of clients)
 on-inside u [] = omega arith
 on-inside u ((c, On wire) ∷ rest) =
-    let one = less (wire == u) in
-    omega (
-      arith,
-      on-inside u rest,
-      sum_by-cons (λ (p : Position). cond (is_on u p) 1 0) (On wire) (values_of rest),
-      sum_by-cons (λ (p : Position). cond (is_inside p) 1 0) (On wire) (values_of rest),
-    )
-  where
-    less : (b : Bool) → cond b 1 0 ≤ 1
-    less true = omega arith
-    less false = omega arith
+    let a = count-cons (is_on u) (On wire) (values_of rest) in let b = count-cons is_inside (On wire) (values_of rest) in
+    grind (arith, nat_tests, on-inside u rest)
 on-inside u ((c, Holds name) ∷ rest) =
-    omega (
-      arith,
-      on-inside u rest,
-      sum_by-cons (λ (p : Position). cond (is_on u p) 1 0) (Holds name) (values_of rest),
-      sum_by-cons (λ (p : Position). cond (is_inside p) 1 0) (Holds name) (values_of rest),
-    )
+    let a = count-cons (is_on u) (Holds name) (values_of rest) in let b = count-cons is_inside (Holds name) (values_of rest) in
+    omega (arith, on-inside u rest)
 
 -- the grants are those of the clients that hold names
 length-grants-in : (clients : List (ℕ × Position)) → length (grants_of_clients clients) ≡ count_by is_named (values_of clients)
 length-grants-in [] = refl
-length-grants-in ((c, On wire) ∷ rest) =
-    omega (arith, length-grants-in rest, sum_by-cons (λ (p : Position). cond (is_named p) 1 0) (On wire) (values_of rest))
-length-grants-in ((c, Holds name) ∷ rest) =
-    omega (arith, length-grants-in rest, sum_by-cons (λ (p : Position). cond (is_named p) 1 0) (Holds name) (values_of rest))
+length-grants-in ((c, On wire) ∷ rest) = omega (arith, length-grants-in rest, count-cons is_named (On wire) (values_of rest))
+length-grants-in ((c, Holds name) ∷ rest) = omega (arith, length-grants-in rest, count-cons is_named (Holds name) (values_of rest))
 
 clients-grants-in : (q : ℕ) (clients : List (ℕ × Position))
     → count_by (λ grant. nat_eq q grant.1) (grants_of_clients clients) ≤ times_entered q clients
 clients-grants-in q [] = omega arith
-clients-grants-in q ((c, On wire) ∷ rest) =
-    omega (arith, clients-grants-in q rest, sum_by-cons (λ (e : ℕ × Position). cond (nat_eq q e.0) 1 0) (c, On wire) rest)
+clients-grants-in q ((c, On wire) ∷ rest) = omega (arith, clients-grants-in q rest, count-cons (λ e. nat_eq q e.0) (c, On wire) rest)
 clients-grants-in q ((c, Holds name) ∷ rest) =
-    omega (
-      arith,
-      clients-grants-in q rest,
-      sum_by-cons (λ (e : ℕ × Position). cond (nat_eq q e.0) 1 0) (c, Holds name) rest,
-      sum_by-cons (λ (grant : ℕ × ℕ). cond (nat_eq q grant.1) 1 0) (name, c) (grants_of_clients rest),
-    )
+    let grants = count-cons (λ (grant : ℕ × ℕ). nat_eq q grant.1) (name, c) (grants_of_clients rest) in
+    omega (arith, clients-grants-in q rest, count-cons (λ e. nat_eq q e.0) (c, Holds name) rest)
 
 eqb-shift : (m n base : ℕ) → (m + base == n + base) ≡ (m == n)
-eqb-shift m n base = elim (cases_eq m n) [
-  | inl e ↦ eq-eqb (m + base) (n + base) (omega arith) ∙ sym (eq-eqb m n e)
-  | inr d ↦ ne_eqb (m + base) (n + base) (λ e. d (omega arith)) ∙ sym (ne_eqb m n d)
-]
+eqb-shift m n base = grind (arith, nat_tests)
 
 names-grants-in : (base n : ℕ) (clients : List (ℕ × Position))
     → times n (map (λ grant. grant.0) (grants_of_clients clients)) ≡ count_by (holds base (n + base)) (values_of clients)
 names-grants-in base n [] = times-nil n
 names-grants-in base n ((c, On wire) ∷ rest) =
-    omega (
-      arith,
-      names-grants-in base n rest,
-      sum_by-cons (λ (p : Position). cond (holds base (n + base) p) 1 0) (On wire) (values_of rest),
-    )
+    omega (arith, names-grants-in base n rest, count-cons (holds base (n + base)) (On wire) (values_of rest))
 names-grants-in base n ((c, Holds name) ∷ rest) =
-    let same : ◌≡◌ {A = ℕ} (cond (name + base == n + base) 1 0) (cond (name == n) 1 0) =
-    ap {B = ℕ} (λ b. cond b 1 0) (eqb-shift name n base) in
-    omega (
-      arith,
-      names-grants-in base n rest,
-      times-cons n name (map (λ grant. grant.0) (grants_of_clients rest)),
-      sum_by-cons (λ (p : Position). cond (holds base (n + base) p) 1 0) (Holds name) (values_of rest),
-    )
+    let here = times-cons n name (map (λ grant. grant.0) (grants_of_clients rest)) in
+    grind (arith, nat_tests, names-grants-in base n rest, count-cons (holds base (n + base)) (Holds name) (values_of rest))
 
 -- a name from the base on was not given before
 not-before : (base w n : ℕ) → n % w < w → base ≤ n → once_below (share base w (n % w)) (n / w) ≡ 0
 not-before base w n below from =
-    elim (cases_lt (n / w) (share base w (n % w))) [
-      | inl low ↦ let early = (name-below base w (n % w) (n / w) below).0 low in absurd (omega (arith, name_of-exit_of w n))
-      | inr high ↦ ap {B = ℕ} (λ b. cond b 1 0) (le-ltb (n / w) (share base w (n % w)) high)
-    ]
+    grind (arith, nat_tests, (name-below base w (n % w) (n / w) below).0, name_of-exit_of w n)
 
 -- and is among all that came exactly where, less the base, it is among those of the epoch
 once-shift : (base k n all : ℕ) → all ≡ base + k → once_below all (n + base) ≡ once_below k n
-once-shift base k n all e = elim (cases_lt n k) [
-  | inl l ↦ ap {B = ℕ} (λ b. cond b 1 0) (lt-ltb (n + base) all (omega arith) ∙ sym (lt-ltb n k l))
-  | inr l ↦ ap {B = ℕ} (λ b. cond b 1 0) (le-ltb (n + base) all (omega arith) ∙ sym (le-ltb n k l))
-]
+once-shift base k n all e = grind (arith, nat_tests)
 
 pub tight-state : (s : State) → IsCore s → inside_in s ≡ 0 → IsTightState s
 tight-state s is none =

@@ -1,6 +1,5 @@
 -- Rows that never rise, and the step property by their ends.
-use Rattle.std.proofs.Common.{◌≡◌, ℕ, zero, suc, ◌+◌, ◌-◌, ◌≤◌, ◌<◌, ◌↔◌, IsTrue, Bool, true, false, nat_le, List, length, get_or, refl, ap, inl, inr, arith}
-use Rattle.std.proofs.Math.Nat.{eq-or-lt_of_le}
+use Rattle.std.proofs.Common.{◌≡◌, ℕ, zero, suc, ◌+◌, ◌-◌, ◌≤◌, ◌<◌, ◌↔◌, IsTrue, Bool, true, false, nat_le, List, length, get_or, arith}
 use Rattle.std.proofs.lemmas.Bool.Decides.{nat_tests}
 use Rattle.std.specs.List.{IsAllAdjacentAnswer}
 use Rattle.cn_spec.specs.Step.{IsStep}
@@ -12,14 +11,7 @@ NeverRises x = (i j : ℕ) → i < j → j < length x → get_or x j 0 ≤ get_o
 -- it is where each entry is at least the next
 next-to-later : (x : List ℕ) → ((i : ℕ) → i + 1 < length x → get_or x (i + 1) 0 ≤ get_or x i 0) → NeverRises x
 next-to-later x next i zero l m = omega arith
-next-to-later x next i (suc j) l m = elim (eq-or-lt_of_le before)
-    [ inl e ↦ omega (arith, here, ap (λ k. get_or x k 0) e) | inr k ↦ omega (arith, here, next-to-later x next i j k (omega arith)) ]
-  where
-    before : i ≤ j
-    before = omega arith
-
-    here : get_or x (suc j) 0 ≤ get_or x j 0
-    here = let same : suc j ≡ j + 1 = omega arith in omega (arith, next j (omega arith), ap (λ k. get_or x k 0) same)
+next-to-later x next i (suc j) l m = grind (arith, next j, next-to-later x next i j)
 
 -- so tests of each entry and the next decide it
 pub never_rises-by_tests : (x : List ℕ) (b : Bool) → IsAllAdjacentAnswer (λ earlier later r. r ≡ nat_le later earlier) x b
@@ -37,32 +29,15 @@ never_rises-by_tests x false h = (
 )
 
 pub last_at-most-first : (x : List ℕ) → 0 < length x → NeverRises x → get_or x (length x - 1) 0 ≤ get_or x 0 0
-last_at-most-first x some never = by_last (length x - 1) refl
-  where
-    by_last : (last : ℕ) → last ≡ length x - 1 → get_or x last 0 ≤ get_or x 0 0
-    by_last zero e = omega arith
-    by_last (suc last) e = never 0 (suc last) (omega arith) (omega arith)
+last_at-most-first x some never = grind (arith, never 0 (length x - 1))
 
 -- a row that never rises has the step property where its first entry is at most one more than its last
 pub step_by-ends : (x : List ℕ) → NeverRises x → get_or x 0 0 ≤ get_or x (length x - 1) 0 + 1 → IsStep x
 step_by-ends x never ends = record {
   no_less = never;
-  at_most_one_more = λ i j l m. omega (arith, from_first i (omega arith), to_last j m);
+  at_most_one_more = λ i j l m. grind (arith, never 0 i, never j (length x - 1));
 }
-  where
-    from_first : (i : ℕ) → i < length x → get_or x i 0 ≤ get_or x 0 0
-    from_first zero l = omega arith
-    from_first (suc i) l = never 0 (suc i) (omega arith) l
-
-    to_last : (j : ℕ) → j < length x → get_or x (length x - 1) 0 ≤ get_or x j 0
-    to_last j l =
-        let within : j ≤ length x - 1 = omega arith in
-        elim (eq-or-lt_of_le within) [ inl e ↦ omega (arith, ap (λ k. get_or x k 0) e) | inr k ↦ never j (length x - 1) k (omega arith) ]
 
 -- and only there
 pub step-ends : (x : List ℕ) → IsStep x → get_or x 0 0 ≤ get_or x (length x - 1) 0 + 1
-step-ends x step = by_last (length x - 1) refl
-  where
-    by_last : (last : ℕ) → last ≡ length x - 1 → get_or x 0 0 ≤ get_or x last 0 + 1
-    by_last zero e = omega arith
-    by_last (suc last) e = step.at_most_one_more 0 (suc last) (omega arith) (omega arith)
+step-ends x step = grind (arith, step.at_most_one_more 0 (length x - 1))

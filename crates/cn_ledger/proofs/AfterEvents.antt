@@ -1,7 +1,7 @@
 -- What an event makes of counts, numbers, grants and the clients on a wire.
-use Rattle.std.proofs.Common.{◌≡◌, ◌≢◌, ℕ, suc, ◌+◌, ◌≤◌, ◌<◌, ◌&&◌, inl, inr, Bool, true, false, cond, eqb, sym, refl, ap, ◌∙◌, arith, add-zero}
+use Rattle.std.proofs.Common.{◌≡◌, ◌≢◌, ℕ, suc, ◌+◌, ◌≤◌, ◌<◌, ◌&&◌, Bool, true, false, cond, eqb, sym, refl, ap, ◌∙◌, arith, add-zero}
 use Rattle.std.proofs.lemmas.Bool.Decides.{nat_tests}
-use Rattle.std.proofs.lemmas.Bool.{cases_eq, eq-eqb, ne_eqb, eqb-true}
+use Rattle.std.proofs.lemmas.Bool.{eqb-true}
 use Rattle.cn_tables.specs.declared.end.End.{End}
 use Rattle.cn_tables.specs.declared.end.End.TheVariants.{Balancer, Exit}
 use Rattle.cn_spec.specs.Sums.{sum_below, when, once_below}
@@ -15,21 +15,16 @@ use Rattle.cn_ledger.proofs.PutOnWires.{total-where-point}
 
 same-end : (a b : End) → is_end a b ≡ true → a ≡ b
 same-end (Balancer b) (Balancer c) e = ap Balancer (sym (eqb-true c b e))
-same-end (Balancer b) (Exit i) e = absurd (cc)
-same-end (Exit i) (Balancer b) e = absurd (cc)
 same-end (Exit i) (Exit j) e = ap Exit (sym (eqb-true j i e))
+same-end _ _ e = absurd (cc)
 
 pub eqb-sym : (a b : ℕ) → eqb a b ≡ eqb b a
-eqb-sym a b = elim (cases_eq a b) [
-  | inl e ↦ eq-eqb a b e ∙ sym (eq-eqb b a (sym e))
-  | inr n ↦ ne_eqb a b n ∙ sym (ne_eqb b a (λ e. n (sym e)))
-]
+eqb-sym a b = grind (arith, nat_tests)
 
 pub is_end-sym : (a b : End) → is_end a b ≡ is_end b a
 is_end-sym (Balancer b) (Balancer c) = eqb-sym c b
-is_end-sym (Balancer b) (Exit i) = refl
-is_end-sym (Exit i) (Balancer b) = refl
 is_end-sym (Exit i) (Exit j) = eqb-sym j i
+is_end-sym _ _ = refl
 
 -- ---- the counts and numbers of a client that goes
 
@@ -55,41 +50,13 @@ numbered-after t old new c u end to ev other n was =
 
 -- ---- the grants
 
-pub both : (p q : Bool) → 1 ≤ cond (p && q) 1 0 → (p ≡ true) × (1 ≤ cond q 1 0)
-both true q h = (refl, h)
-both false q h = absurd (omega arith)
-
-pub is-true : (p : Bool) → 1 ≤ cond p 1 0 → p ≡ true
-is-true true h = refl
-is-true false h = absurd (omega arith)
-
 pub once-leave : (c d i j n v a b : ℕ) → cond (eqb c d && (eqb i j && (eqb n v && eqb a b))) 1 0 ≤ cond (eqb j i && eqb n v) 1 0
-once-leave c d i j n v a b = rw (eqb-sym j i) (ands (eqb c d) (eqb i j) (eqb n v) (eqb a b))
-  where
-    ands : (p q r s : Bool) → cond (p && (q && (r && s))) 1 0 ≤ cond (q && r) 1 0
-    ands false q r s = omega arith
-    ands true false r s = omega arith
-    ands true true false s = omega arith
-    ands true true true false = omega arith
-    ands true true true true = omega arith
+once-leave c d i j n v a b = grind (arith, nat_tests)
 
 pub distinct-leave : (c d e i j n v a b : ℕ) → d ≢ e
     → cond (eqb c d && (eqb i j && (eqb n v && eqb a b))) 1 0 + cond (eqb c e && (eqb i j && (eqb n v && eqb a b))) 1 0
     ≤ cond (eqb j i && eqb n v) 1 0
-distinct-leave c d e i j n v a b differ =
-    elim (cases_eq c d) [
-      | inl q ↦
-          let none : ◌≡◌ {A = ℕ} (cond (eqb c e && (eqb i j && (eqb n v && eqb a b))) 1 0) 0 =
-          ap {B = ℕ} (λ z. cond (z && (eqb i j && (eqb n v && eqb a b))) 1 0) (ne_eqb c e (λ r. differ (sym q ∙ r))) in
-          omega (arith, once-leave c d i j n v a b)
-      | inr q ↦
-          let none : ◌≡◌ {A = ℕ} (cond (eqb c d && (eqb i j && (eqb n v && eqb a b))) 1 0) 0 =
-          ap {B = ℕ} (λ z. cond (z && (eqb i j && (eqb n v && eqb a b))) 1 0) (ne_eqb c d q) in
-          omega (arith, once-leave c e i j n v a b)
-    ]
-
-pub all-same : (c i j n v a b : ℕ) → i ≡ j → n ≡ v → a ≡ b → ◌≡◌ {A = ℕ} (cond (eqb c c && (eqb i j && (eqb n v && eqb a b))) 1 0) 1
-all-same c i j n v a b ij nv ab = rw (eq-eqb c c refl, eq-eqb i j ij, eq-eqb n v nv, eq-eqb a b ab) refl
+distinct-leave c d e i j n v a b differ = grind (arith, nat_tests)
 
 -- ---- the clients on a wire
 

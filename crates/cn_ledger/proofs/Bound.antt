@@ -1,6 +1,7 @@
 -- A sound ledger against the full flow of what entered.
-use Rattle.std.proofs.Common.{◌≡◌, ℕ, zero, suc, ◌+◌, ◌-◌, ◌*◌, ◌/◌, ◌%◌, ◌<◌, ◌≤◌, inl, inr, true, false, cond, List, length, get_or, map, refl, ap, sym, ◌∙◌, arith, eqb, ltb, subst, add-zero}
-use Rattle.std.proofs.lemmas.Bool.{cases_eq, cases_lt, eq-eqb, ne_eqb, lt-ltb, le-ltb}
+use Rattle.std.proofs.Common.{◌≡◌, ℕ, zero, suc, ◌+◌, ◌-◌, ◌*◌, ◌/◌, ◌%◌, ◌<◌, ◌≤◌, inl, inr, cond, List, length, get_or, map, refl, ap, sym, ◌∙◌, arith, eqb, subst, add-zero}
+use Rattle.std.proofs.lemmas.Bool.{cases_eq, lt-ltb, le-ltb}
+use Rattle.std.proofs.lemmas.Bool.Decides.{nat_tests}
 use Rattle.std.proofs.lemmas.Nat.{mod_below}
 use Rattle.std.proofs.lemmas.List.FromFn.{sum_by-map-range_with_len_more, get_or-map-range_with_len, length-map-range_with_len}
 use Rattle.std.specs.List.{range_with_len, sum}
@@ -23,12 +24,8 @@ put-output t l b p h =
     let r : (t.entries + 2 * b + p - t.entries) % 2 ≡ p = omega arith in
     rw (le-ltb (t.entries + 2 * b + p) t.entries (omega arith), q, r)
 
-two_more : (P : ℕ → Type 0) (m : ℕ) → ((u : ℕ) → u < m → P u) → P m → P (m + 1) → (u : ℕ) → u < m + 2 → P u
-two_more P m h p q u k =
-    elim (cases_lt u m) [
-      | inl l ↦ h u l
-      | inr l ↦ elim (cases_eq u m) [ inl e ↦ rw e p | inr d ↦ let e : u ≡ m + 1 = omega arith in rw e q ]
-    ]
+two_more : (f g : ℕ → ℕ) (m : ℕ) → ((u : ℕ) → u < m → f u ≤ g u) → f m ≤ g m → f (m + 1) ≤ g (m + 1) → (u : ℕ) → u < m + 2 → f u ≤ g u
+two_more f g m h p q u k = grind (arith, h u)
 
 module _ (t : Table) (w : IsWellFormed t) (l : Ledger) (sound : IsSound t l) (f : ℕ → ℕ) (flow : IsFullFlow t f)
     (inputs : Agree t.entries f l.entered) where
@@ -36,9 +33,8 @@ module _ (t : Table) (w : IsWellFormed t) (l : Ledger) (sound : IsSound t l) (f 
   passed-bound : (b : ℕ) → b < t.balancers → ((u : ℕ) → u < t.entries + 2 * b → put t l u ≤ f u)
       → l.count (Balancer b) ≤ sum_at t (Balancer b) f
   passed-bound b h before =
-      let s = sound.balanced (Balancer b) h in
       let m = total-where-mono (is_end (Balancer b)) t.ends (Balancer 0) (put t l) f (λ u j q. before u (older t w b u j q)) in
-      omega arith
+      omega (arith, sound.balanced (Balancer b) h)
 
   put-upto : (b : ℕ) → b ≤ t.balancers → (u : ℕ) → u < t.entries + 2 * b → put t l u ≤ f u
   put-upto zero h = λ u j.
@@ -49,7 +45,7 @@ module _ (t : Table) (w : IsWellFormed t) (l : Ledger) (sound : IsSound t l) (f 
       let c = passed-bound b (omega arith) before in
       let here = flow b (omega arith) in
       let m : t.entries + 2 * suc b ≡ (t.entries + 2 * b) + 2 = omega arith in
-      rw m (two_more (λ u. put t l u ≤ f u) (t.entries + 2 * b) before
+      rw m (two_more (put t l) f (t.entries + 2 * b) before
       (let q = rw add-zero at (put-output t l b 0 (omega arith)) in
       let k = half-mono (l.count (Balancer b)) (sum_at t (Balancer b) f) 0 c in omega (arith, here.0))
       (let q = put-output t l b 1 (omega arith) in let k = half-mono (l.count (Balancer b)) (sum_at t (Balancer b) f) 1 c in
@@ -110,10 +106,7 @@ exit-shares t w counts f flow i h =
     sym at ∙ ap (λ (xs : List ℕ). get_or xs i 0) is ∙ get-or-shares (sum_below t.entries f) t.width i h
 
 once-given : (c v : ℕ) → 1 ≤ once_below c v → v < c
-once-given c v h = elim (cases_lt v c) [
-  | inl l ↦ l
-  | inr l ↦ absurd (let z = le-ltb v c l in omega (arith, ap {B = ℕ} (λ b. cond b 1 0) z))
-]
+once-given c v h = grind (arith, nat_tests)
 
 -- ---- the laws
 
@@ -166,12 +159,7 @@ tight t w counts l sound quiet =
         ∙ ap (λ n. share n t.width i) same
 
     same-once : (c v m n : ℕ) → (v < c → n < m) → (n < m → v < c) → once_below c v ≡ once_below m n
-    same-once c v m n to from =
-        elim (cases_lt v c) [
-          | inl k ↦ ap (λ b. cond b 1 0) (lt-ltb v c k ∙ sym (lt-ltb n m (to k)))
-          | inr k ↦ ap (λ b. cond b 1 0) (le-ltb v c k
-              ∙ sym (le-ltb n m (elim (cases_lt n m) [ inl j ↦ absurd (let q = from j in omega arith) | inr j ↦ j ])))
-        ]
+    same-once c v m n to from = grind (arith, nat_tests)
 
     given : (name : ℕ) → IsFullFlow t (put t l) → sum_below t.entries (put t l) ≡ all_entered t l
         → times_given t l name ≡ once_below (all_entered t l) name
@@ -195,26 +183,18 @@ tight t w counts l sound quiet =
         let here : times_given t l name ≡ 1 = given name flow same ∙ one in
         let (c, g) = sound.owned (name % t.width) (name / t.width) h (omega arith) in (
           c,
-          λ d. elim (cases_eq c d) [
-            | inl e ↦
-                let least_one : 1 ≤ l.granted d (name % t.width) (name / t.width) name =
-                subst (λ x. 1 ≤ l.granted x (name % t.width) (name / t.width) name) e (rw is at g) in
-                let yes : ◌≡◌ {A = ℕ} (cond (eqb c d) 1 0) 1 = ap {B = ℕ} (λ b. cond b 1 0) (eq-eqb c d e) in
-                omega (arith, sound.once d (name % t.width) (name / t.width) name)
-            | inr n ↦
-                let no : ◌≡◌ {A = ℕ} (cond (eqb c d) 1 0) 0 = ap {B = ℕ} (λ b. cond b 1 0) (ne_eqb c d n) in
-                let two = rw is at (sound.distinct c d (name % t.width) (name / t.width) n) in
-                let first : 1 ≤ l.granted c (name % t.width) (name / t.width) name = rw is at g in
-                omega arith
-          ],
+          λ d. grind (
+            arith,
+            nat_tests,
+            g,
+            sound.once d (name % t.width) (name / t.width) name,
+            sound.distinct c d (name % t.width) (name / t.width),
+          ),
         )
 
 -- each visit is given once at most
 given-most : (t : Table) (l : Ledger) → IsSound t l → (i v : ℕ) → i < t.width → l.given (Exit i) v ≤ 1
-given-most t l sound i v h = rw (sound.numbered (Exit i) v h) (once-most (l.count (Exit i)))
-  where
-    once-most : (c : ℕ) → once_below c v ≤ 1
-    once-most c = elim (ltb v c) as (λ q. cond q 1 0 ≤ 1) [ true ↦ omega arith | false ↦ omega arith ]
+given-most t l sound i v h = grind (arith, nat_tests, sound.numbered (Exit i) v h)
 
 -- two grants of one name are one grant
 pub names-differ : (t : Table) (l : Ledger) → IsSound t l → (c d i j u v a b : ℕ) → 1 ≤ l.granted c i u a → 1 ≤ l.granted d j v b → a ≡ b

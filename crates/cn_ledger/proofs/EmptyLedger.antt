@@ -1,6 +1,7 @@
 -- Where nobody has come, the ledger is sound.
-use Rattle.std.proofs.Common.{◌≡◌, ℕ, ◌-◌, ◌/◌, inl, inr, cond, sym, refl, ap, arith, ◌∙◌}
-use Rattle.std.proofs.lemmas.Bool.{cases_lt, lt-ltb, le-ltb}
+use Rattle.std.proofs.Common.{◌≡◌, ℕ, ◌-◌, ◌/◌, cond, sym, refl, ap, arith, ◌∙◌}
+use Rattle.std.proofs.lemmas.Bool.Decides.{nat_tests}
+use Rattle.std.proofs.lemmas.Bool.{le-ltb}
 use Rattle.cn_spec.specs.Step.{name_of}
 use Rattle.cn_spec.proofs.CallerLemmas.{sum-below-zero, total-where-agree, total-where-zero}
 use Rattle.cn_tables.specs.declared.end.End.{End}
@@ -18,11 +19,7 @@ pub record IsNothing (l : Ledger) : Type 0 where
   pub granted : (c i v name : ℕ) → l.granted c i v name ≡ 0
 
 put-nothing : (t : Table) (l : Ledger) → IsNothing l → (u : ℕ) → put t l u ≡ 0
-put-nothing t l none u =
-    elim (cases_lt u t.entries) [
-      | inl h ↦ rw (lt-ltb u t.entries h) (none.entered u)
-      | inr h ↦ rw (le-ltb u t.entries h, none.count (Balancer ((u - t.entries) / 2))) (omega arith)
-    ]
+put-nothing t l none u = grind (arith, nat_tests, none.entered u, none.count (Balancer ((u - t.entries) / 2)))
 
 pub sound-nothing : (t : Table) (l : Ledger) → IsNothing l → IsSound t l
 sound-nothing t l none = record {

@@ -1,6 +1,7 @@
 -- Each event keeps a ledger sound, and a client that goes stood where it goes from.
-use Rattle.std.proofs.Common.{◌≡◌, ℕ, ◌%◌, ◌≤◌, ◌<◌, ◌&&◌, inl, inr, true, cond, eqb, sym, refl, ap, ◌∙◌, arith, subst}
-use Rattle.std.proofs.lemmas.Bool.{cases_lt, eq-eqb, ne_eqb, eqb-true}
+use Rattle.std.proofs.Common.{◌≡◌, ℕ, ◌%◌, ◌≤◌, inl, inr, true, cond, sym, refl, ap, ◌∙◌, arith, subst}
+use Rattle.std.proofs.lemmas.Bool.Decides.{nat_tests}
+use Rattle.std.proofs.lemmas.Bool.{cases_lt, eq-eqb, ne_eqb}
 use Rattle.cn_spec.specs.Step.{name_of}
 use Rattle.cn_tables.specs.declared.end.End.{End}
 use Rattle.cn_tables.specs.declared.end.End.TheVariants.{Balancer, Exit}
@@ -11,7 +12,7 @@ use Rattle.cn_tables.proofs.CallerLemmas.{older}
 use Rattle.cn_ledger.specs.Ledger.{Ledger, IsSound, put}
 use Rattle.cn_ledger.specs.Events.{Enters, Goes, Passes, Leaves, one_at}
 use Rattle.cn_ledger.proofs.PutOnWires.{balanced-after, put-enter, put-leave, put-pass}
-use Rattle.cn_ledger.proofs.AfterEvents.{all-same, distinct-leave, both, clients-enter, clients-go, count-from, is-true, numbered-after, once-leave}
+use Rattle.cn_ledger.proofs.AfterEvents.{distinct-leave, clients-enter, clients-go, count-from, numbered-after, once-leave}
 
 -- ---- the laws
 
@@ -72,20 +73,8 @@ sound-leaves t w old new c u i ev sound =
       clients = λ w. clients-go t old new c u (Exit i) (λ _. 0) ev.goes w (sound.clients w);
       numbered = λ end m h. numbered-after t old new c u (Exit i) (λ _. 0) ev.goes end m (sound.numbered end m h);
       named = λ d j v name g.
-          elim (cases_lt 0 (old.granted d j v name)) [
-            | inl k ↦ sound.named d j v name k
-            | inr k ↦
-                let one : 1 ≤ cond (eqb c d && (eqb i j && (eqb n v && eqb (name_of t.width i n) name))) 1 0 =
-                omega (arith, ev.granted d j v name) in
-                let a = both (eqb c d) (eqb i j && (eqb n v && eqb (name_of t.width i n) name)) one in
-                let b = both (eqb i j) (eqb n v && eqb (name_of t.width i n) name) a.1 in
-                let z = both (eqb n v) (eqb (name_of t.width i n) name) b.1 in
-                let ij : i ≡ j = eqb-true i j b.0 in
-                let nv : n ≡ v = eqb-true n v z.0 in
-                let nm : name_of t.width i n ≡ name = eqb-true (name_of t.width i n) name (is-true (eqb (name_of t.width i n) name) z.1) in
-                let there : Stands t (Exit i) = subst (Stands t) ev.goes.ends (w.stands u ev.goes.inside) in
-                (subst (λ x. x < t.width) ij there, sym nm ∙ ap (λ x. name_of t.width x n) ij ∙ ap (λ x. name_of t.width j x) nv)
-          ];
+          let there : Stands t (Exit i) = subst (Stands t) ev.goes.ends (w.stands u ev.goes.inside) in
+          grind (arith, nat_tests, sound.named d j v name, ev.granted d j v name);
       once = λ d j v name. omega (
         arith,
         sound.once d j v name,
@@ -107,16 +96,7 @@ sound-leaves t w old new c u i ev sound =
             | inl k ↦
                 let (d, m) = sound.owned j v h k in
                 (d, omega (arith, ev.granted d j v (name_of t.width j v)))
-            | inr k ↦
-                let one : 1 ≤ cond (eqb j i && eqb n v) 1 0 = omega (arith, ev.goes.given (Exit j) v) in
-                let a = both (eqb j i) (eqb n v) one in
-                let ij : i ≡ j = sym (eqb-true j i a.0) in
-                let nv : n ≡ v = eqb-true n v (is-true (eqb n v) a.1) in
-                let now = ev.granted c j v (name_of t.width j v) in
-                let same : name_of t.width i n ≡ name_of t.width j v =
-                ap (λ x. name_of t.width x n) ij ∙ ap (λ x. name_of t.width j x) nv in
-                let grants = all-same c i j n v (name_of t.width i n) (name_of t.width j v) ij nv same in
-                (c, omega arith)
+            | inr k ↦ (c, grind (arith, nat_tests, ev.granted c j v (name_of t.width j v), ev.goes.given (Exit j) v))
           ];
     }
 
@@ -125,11 +105,7 @@ sound-leaves t w old new c u i ev sound =
 -- a client that goes from a wire on which it is not put stood there
 goes-stood : (t : Table) (old new : Ledger) (c u : ℕ) (end : End) (to : ℕ → ℕ) → Goes t old new c u end to → to u ≡ 0
     → (1 ≤ old.standing u c) × (1 ≤ old.on u)
-goes-stood t old new c u end to ev none =
-    let off : ◌≡◌ {A = ℕ} (cond (eqb u u && eqb c c) 1 0) 1 = rw (eq-eqb u u refl, eq-eqb c c refl) refl in
-    let put : cond (eqb c c) (to u) 0 ≡ 0 = rw (eq-eqb c c refl) none in
-    let one : one_at u u ≡ 1 = ap {B = ℕ} (λ q. cond q 1 0) (eq-eqb u u refl) in
-    (omega (arith, ev.standing u c), omega (arith, ev.on u))
+goes-stood t old new c u end to ev none = (grind (arith, nat_tests, ev.standing u c), grind (arith, nat_tests, ev.on u))
 
 pub passes-stood : (t : Table) → IsWellFormed t → (old new : Ledger) (c u b : ℕ) → Passes t old new c u b
     → (1 ≤ old.standing u c) × (1 ≤ old.on u)

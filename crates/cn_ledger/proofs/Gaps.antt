@@ -1,11 +1,10 @@
 -- Names that are missing are as many as clients are inside.
-use Rattle.std.proofs.Common.{◌≡◌, ℕ, zero, suc, ◌+◌, ◌-◌, ◌*◌, ◌/◌, ◌%◌, ◌≢◌, ◌<◌, ◌≤◌, inl, inr, cond, eqb, sym, refl, ap, ◌∙◌, arith}
-use Rattle.std.proofs.Math.Nat.{mul-le-mul_left}
-use Rattle.std.proofs.lemmas.Bool.{cases_eq, cases_lt, eq-eqb, le-ltb, lt-ltb, ne_eqb}
+use Rattle.std.proofs.Common.{◌≡◌, ℕ, zero, suc, ◌+◌, ◌-◌, ◌*◌, ◌/◌, ◌%◌, ◌<◌, ◌≤◌, eqb, sym, refl, ap, ◌∙◌, arith}
+use Rattle.std.proofs.lemmas.Bool.Decides.{nat_tests}
 use Rattle.std.proofs.lemmas.Nat.{mod_below}
 use Rattle.cn_spec.specs.Step.{name_of, share}
 use Rattle.cn_spec.specs.Sums.{once_below, sum_below, when}
-use Rattle.cn_spec.proofs.CallerLemmas.{exit_of-name_of, name-below, name_of-exit_of, sum-below-part, sum-below-pick, sum-below-plus, sum-below-same, sum-below-zero}
+use Rattle.cn_spec.proofs.CallerLemmas.{name-below, share-next, share-stays, sum-below-part, sum-below-pick, sum-below-plus, sum-below-same, sum-below-zero}
 use Rattle.cn_tables.specs.declared.end.End.TheVariants.{Exit}
 use Rattle.cn_tables.specs.Network.{Counts}
 use Rattle.cn_tables.specs.Table.{IsWellFormed, Table, sum_at}
@@ -16,57 +15,9 @@ use Rattle.cn_ledger.specs.Ledger.{IsSound, Ledger, all_entered, times_given}
 use Rattle.cn_ledger.proofs.Bound.{bounded, exit-shares}
 use Rattle.cn_ledger.proofs.Kept.{nobody-lost}
 
--- one name more, and what an exit has not given
-one-more : (c q s r : ℕ) → s ≡ q → r ≡ q + 1 → r - c ≡ (1 - once_below c q) + (s - c)
-one-more c q s r is next = elim (cases_lt q c) [
-  | inl l ↦ let one : ◌≡◌ {A = ℕ} (once_below c q) 1 = ap {B = ℕ} (λ b. cond b 1 0) (lt-ltb q c l) in omega arith
-  | inr l ↦ let none : ◌≡◌ {A = ℕ} (once_below c q) 0 = ap {B = ℕ} (λ b. cond b 1 0) (le-ltb q c l) in omega arith
-]
-
--- a visit that is not below the share has a name that is not below the number, and the other way round
+-- a visit that is not below the share has a name that is not below the number
 least : (m w i v : ℕ) → i < w → share m w i ≤ v → m ≤ name_of w i v
-least m w i v h few = elim (cases_lt (name_of w i v) m) [
-  | inl l ↦ absurd (omega (arith, few, (name-below m w i v h).1 l))
-  | inr l ↦ l
-]
-
-fewest : (m w i v : ℕ) → i < w → m ≤ name_of w i v → share m w i ≤ v
-fewest m w i v h high = elim (cases_lt v (share m w i)) [
-  | inl l ↦ absurd (omega (arith, high, (name-below m w i v h).0 l))
-  | inr l ↦ l
-]
-
--- name m is the next of its exit
-next-share : (m w i : ℕ) → i < w → m % w ≡ i → (share m w i ≡ m / w) × (share (suc m) w i ≡ m / w + 1)
-next-share m w i h at =
-    let q : ℕ = m / w in
-    let is : name_of w i q ≡ m = ap (λ (j : ℕ). name_of w j q) (sym at) ∙ name_of-exit_of w m in
-    let spread : (a b : ℕ) → a * (b + 1) ≡ a * b + a = λ a b. omega arith in
-    let most : share m w i ≤ q = fewest m w i q h (omega (arith, is)) in
-    let more : share (suc m) w i ≤ q + 1 = fewest (suc m) w i (q + 1) h (omega (arith, is, spread w q, h)) in
-    let some : q < share (suc m) w i = (name-below (suc m) w i q h).1 (omega (arith, is)) in
-    let all : q ≤ share m w i = elim (cases_lt (share m w i) q) [
-      | inl l ↦ absurd (
-          let step : share m w i + 1 ≤ q = omega (arith, l) in
-          omega (arith, least m w i (share m w i) h (omega arith), is, mul-le-mul_left w step, spread w (share m w i), h)
-          )
-      | inr l ↦ l
-    ] in
-    (omega (arith, most, all), omega (arith, more, some))
-
--- of no other
-same-share : (m w i : ℕ) → i < w → m % w ≢ i → share (suc m) w i ≡ share m w i
-same-share m w i h other =
-    let less : share m w i ≤ share (suc m) w i =
-    fewest m w i (share (suc m) w i) h (omega (arith, least (suc m) w i (share (suc m) w i) h (omega arith))) in
-    elim (cases_lt (share m w i) (share (suc m) w i)) [
-      | inr l ↦ omega (arith, less, l)
-      | inl l ↦ absurd (
-          let is : name_of w i (share m w i) ≡ m =
-          omega (arith, (name-below (suc m) w i (share m w i) h).0 l, least m w i (share m w i) h (omega arith)) in
-          other (ap (λ (n : ℕ). n % w) (sym is) ∙ (exit_of-name_of w i (share m w i) h).0)
-          )
-    ]
+least m w i v h few = grind (arith, (name-below m w i v h).1)
 
 module _ (t : Table) (w : IsWellFormed t) (l : Ledger) (sound : IsSound t l) where
   -- the names below m that are not given, exit by exit
@@ -74,7 +25,7 @@ module _ (t : Table) (w : IsWellFormed t) (l : Ledger) (sound : IsSound t l) whe
       ≡ sum_below t.width (λ i. share m t.width i - l.count (Exit i))
   unfolding sum_below
   missing-below zero = sym (sum-below-same t.width (λ i. share 0 t.width i - l.count (Exit i)) (λ _. 0)
-      (λ i h. let none : share 0 t.width i ≤ 0 = fewest 0 t.width i 0 h (omega arith) in omega arith)
+      (λ i h. grind (arith, (name-below 0 t.width i 0 h).0))
       ∙ sum-below-zero t.width (λ _. 0) (λ _. refl))
   missing-below (suc m) =
       let at : ℕ = m % t.width in
@@ -84,17 +35,7 @@ module _ (t : Table) (w : IsWellFormed t) (l : Ledger) (sound : IsSound t l) whe
       let given : times_given t l m ≡ once_below (l.count (Exit at)) q = sound.numbered (Exit at) q low in
       let each : (i : ℕ) → i < t.width → share (suc m) t.width i - l.count (Exit i)
       ≡ when (eqb at i) gap + (share m t.width i - l.count (Exit i)) =
-      λ i h. elim (cases_eq at i) [
-        | inl e ↦
-            let s = next-share m t.width i h e in
-            let here : ◌≡◌ {A = ℕ} (when (eqb at i) gap) gap = ap {B = ℕ} (λ b. cond b gap 0) (eq-eqb at i e) in
-            let same : gap ≡ 1 - once_below (l.count (Exit i)) q = ap (λ (j : ℕ). 1 - once_below (l.count (Exit j)) q) e in
-            omega (arith, one-more (l.count (Exit i)) q (share m t.width i) (share (suc m) t.width i) s.0 s.1, here, same)
-        | inr n ↦
-            let s = same-share m t.width i h n in
-            let there : ◌≡◌ {A = ℕ} (when (eqb at i) gap) 0 = ap {B = ℕ} (λ b. cond b gap 0) (ne_eqb at i n) in
-            omega (arith, s, there)
-      ] in
+      λ i h. grind (arith, nat_tests, share-next m t.width i h, share-stays m t.width i h) in
       let all : sum_below t.width (λ i. share (suc m) t.width i - l.count (Exit i))
       ≡ gap + sum_below t.width (λ i. share m t.width i - l.count (Exit i)) =
       sum-below-same t.width _ _ each
@@ -130,19 +71,9 @@ module _ (t : Table) (w : IsWellFormed t) (l : Ledger) (sound : IsSound t l) whe
 
     -- two shares differ by at most one
     two-shares : (m i j : ℕ) → i < t.width → j < t.width → share m t.width i ≤ share m t.width j + 1
-    two-shares m i j h k = elim (cases_lt (share m t.width j + 1) (share m t.width i)) [
-      | inr few ↦ few
-      | inl many ↦ absurd (
-          let spread : (a b : ℕ) → a * (b + 1) ≡ a * b + a = λ a b. omega arith in
-          omega (
-            arith,
-            (name-below m t.width i (share m t.width j + 1) h).0 many,
-            least m t.width j (share m t.width j) k (omega arith),
-            k,
-            spread t.width (share m t.width j),
-          )
-          )
-    ]
+    two-shares m i j h k =
+        let spread : t.width * (share m t.width j + 1) ≡ t.width * share m t.width j + t.width = omega arith in
+        grind (arith, (name-below m t.width i (share m t.width j + 1) h).0, least m t.width j (share m t.width j) k)
 
     pub smooth : IsSmooth (all_inside t l + 1) t l
     smooth i j h k = omega (arith, near-shares i h, near-shares j k, two-shares (all_entered t l) i j h k)

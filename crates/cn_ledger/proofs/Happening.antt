@@ -1,6 +1,5 @@
 -- The ledger after an event, where the event can happen.
-use Rattle.std.proofs.Common.{◌≡◌, ℕ, suc, ◌+◌, ◌-◌, ◌%◌, ◌<◌, ◌≤◌, ◌&&◌, inl, inr, Bool, true, false, cond, eqb, length, arith, refl, ap}
-use Rattle.std.proofs.lemmas.Bool.{cases_eq, eq-eqb, ne_eqb}
+use Rattle.std.proofs.Common.{◌≡◌, ℕ, suc, ◌+◌, ◌-◌, ◌%◌, ◌<◌, ◌≤◌, ◌&&◌, eqb, length, arith, refl}
 use Rattle.std.proofs.lemmas.Bool.Decides.{nat_tests}
 use Rattle.cn_spec.specs.Step.{name_of}
 use Rattle.cn_spec.specs.Sums.{when}
@@ -50,22 +49,10 @@ after old c u end to granted = record {
 
 -- what is taken off is there
 taken-off : (u w : ℕ) (f : ℕ → ℕ) → 1 ≤ f u → one_at u w ≤ f w
-taken-off u w f h =
-    elim (cases_eq u w) [
-      | inl e ↦ let k : 1 ≤ f w = rw e at h in omega (arith, most (eqb u w))
-      | inr n ↦ let z : one_at u w ≡ 0 = ap {B = ℕ} (λ q. cond q 1 0) (ne_eqb u w n) in omega arith
-    ]
-  where
-    most : (b : Bool) → cond b 1 0 ≤ 1
-    most true = omega arith
-    most false = omega arith
+taken-off u w f h = grind (arith, nat_tests)
 
 taken-off-client : (u w c d : ℕ) (f : ℕ → ℕ → ℕ) → 1 ≤ f u c → when (eqb u w && eqb c d) 1 ≤ f w d
-taken-off-client u w c d f h =
-    elim (cases_eq c d) [
-      | inl e ↦ let k : 1 ≤ f u d = rw e at h in let r = taken-off u w (λ x. f x d) k in rw (eq-eqb c d e) (grind (arith, nat_tests))
-      | inr n ↦ rw (ne_eqb c d n) (grind (arith, nat_tests))
-    ]
+taken-off-client u w c d f h = grind (arith, nat_tests)
 
 going : (t : Table) (old : Ledger) (c u : ℕ) (end : End) (to : ℕ → ℕ) (granted : ℕ → ℕ → ℕ → ℕ → ℕ)
     → u < length t.ends → end_of t u ≡ end → 1 ≤ old.standing u c → 1 ≤ old.on u → Goes t old (after old c u end to granted) c u end to

@@ -1,6 +1,6 @@
 -- In a list with distinct clients, each client stands at most once.
-use Rattle.std.proofs.Common.{◌≡◌, ◌∙◌, ℕ, ◌≤◌, cond, false, nat_eq, List, [], ◌∷◌, count_by, refl, inl, inr, arith}
-use Rattle.std.proofs.lemmas.Bool.{cases_eq, eq-eqb, ne_eqb}
+use Rattle.std.proofs.Common.{◌≡◌, ◌∙◌, ℕ, ◌≤◌, cond, false, nat_eq, List, [], ◌∷◌, count_by, refl, arith}
+use Rattle.std.proofs.lemmas.Bool.Decides.{nat_tests}
 use Rattle.std.proofs.lemmas.List.Sums.{sum_by-cons}
 use Rattle.std.proofs.lemmas.Map.Keys.{IsDistinct-head, IsDistinct-tail}
 use Rattle.std.specs.List.{IsDistinct, AllByRecursion}
@@ -17,10 +17,10 @@ absent client (e ∷ names) differ =
 
 pub once : (client : ℕ) (names : List (ℕ × Standing)) → IsDistinct nat_eq (keys_of names) → count_by (λ e. nat_eq client e.0) names ≤ 1
 once client [] distinct = omega arith
-once client (e ∷ names) distinct =
-    rw (sum_by-cons (λ (entry : ℕ × Standing). cond (nat_eq client entry.0) 1 0) e names) (
-    elim (cases_eq client e.0) [
-      | inl same ↦ rw same (rw (eq-eqb e.0 e.0 refl)
-          (omega (arith, absent e.0 names (IsDistinct-head nat_eq e.0 (keys_of names) distinct))))
-      | inr other ↦ rw (ne_eqb client e.0 other) (omega (arith, once client names (IsDistinct-tail nat_eq e.0 (keys_of names) distinct)))
-    ])
+once client (e ∷ names) distinct = grind (
+  arith,
+  nat_tests,
+  sum_by-cons (λ (entry : ℕ × Standing). cond (nat_eq client entry.0) 1 0) e names,
+  absent e.0 names (IsDistinct-head nat_eq e.0 (keys_of names) distinct),
+  once client names (IsDistinct-tail nat_eq e.0 (keys_of names) distinct),
+)

@@ -1,6 +1,7 @@
 -- Who is walking, and what the others hold.
-use Rattle.std.proofs.Common.{◌≡◌, ℕ, suc, Bool, true, false, cond, nat_eq, List, [], ◌∷◌, length, Option, None, Some, refl, ap, subst, inl, inr}
-use Rattle.std.proofs.lemmas.Bool.{cases_eq, eq-eqb, ne_eqb}
+use Rattle.std.proofs.Common.{arith, ◌≡◌, ℕ, suc, true, false, nat_eq, List, [], ◌∷◌, length, None, Some, refl, ap}
+use Rattle.std.proofs.lemmas.Bool.Decides.{nat_tests}
+use Rattle.std.proofs.lemmas.Bool.{eq-eqb}
 use Rattle.std.proofs.lemmas.Map.Keys.{IsDistinct-head, IsDistinct-tail}
 use Rattle.std.specs.List.{IsDistinct, AllByRecursion, list_any}
 use Rattle.std.specs.Map.{keys_of, values_of}
@@ -19,13 +20,7 @@ stranger client (e ∷ names) differ = rw differ.0 (stranger client names differ
 behind : (other client : ℕ) (s : Standing) (names : List (ℕ × Standing)) (token : ℕ)
     → AllByRecursion (λ later. nat_eq client later ≡ false) (keys_of names) → standing_of_client names other ≡ Some (Walking token)
     → standing_of_client ((client, s) ∷ names) other ≡ Some (Walking token)
-behind other client s names token differ found =
-    elim (cases_eq other client) [
-      | inl same ↦ let none = stranger client names differ in
-          let here : standing_of_client names client ≡ Some (Walking token) =
-          subst (λ c. standing_of_client names c ≡ Some (Walking token)) same found in absurd (cc)
-      | inr unlike ↦ rw (ne_eqb other client unlike) found
-    ]
+behind other client s names token differ found = grind (arith, nat_tests, stranger client names differ)
 
 pub walking-from-any : (names : List (ℕ × Standing)) → IsDistinct nat_eq (keys_of names) → list_any is_walking (values_of names) ≡ true
     → (client : ℕ) × IsWalking names client
@@ -41,18 +36,11 @@ walking-from-any ((client, Holds name) ∷ names) distinct any =
       ),
     )
 
--- a standing that walks is not that of a client that holds a name
-past-a-name : (here : Bool) (name token : ℕ) (rest : Option Standing) → cond here (Some (Holds name)) rest ≡ Some (Walking token)
-    → rest ≡ Some (Walking token)
-past-a-name true name token rest found = cc
-past-a-name false name token rest found = found
-
 pub any-from-walking : (names : List (ℕ × Standing)) (client token : ℕ) → standing_of_client names client ≡ Some (Walking token)
     → list_any is_walking (values_of names) ≡ true
 any-from-walking [] client token found = cc
 any-from-walking ((first, Walking other) ∷ names) client token found = refl
-any-from-walking ((first, Holds name) ∷ names) client token found =
-    any-from-walking names client token (past-a-name (nat_eq client first) name token (standing_of_client names client) found)
+any-from-walking ((first, Holds name) ∷ names) client token found = grind (arith, nat_tests, any-from-walking names client token)
 
 -- where nobody walks, each client holds a name
 pub length-grants-in : (names : List (ℕ × Standing)) → list_any is_walking (values_of names) ≡ false

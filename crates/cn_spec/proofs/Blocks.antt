@@ -36,41 +36,30 @@ sum-block (suc level) x e =
 -- ---- the even and the odd outputs of a layer are the halves of the sums
 
 halves : ℕ → List ℕ → List ℕ → List ℕ
-halves p [] y = []
-halves p (a ∷ x) [] = []
 halves p (a ∷ x) (b ∷ y) = half (a + b) p ∷ halves p x y
+halves p _ _ = []
 
 firsts-layer : (x y : List ℕ) → firsts (layer x y) ≡ halves 0 x y
 unfolding halves
-firsts-layer [] y = refl
-firsts-layer (a ∷ x) [] = refl
 firsts-layer (a ∷ x) (b ∷ y) = ap (λ r. half (a + b) 0 ∷ r) (firsts-layer x y)
+firsts-layer _ _ = refl
 
 seconds-layer : (x y : List ℕ) → seconds (layer x y) ≡ halves 1 x y
 unfolding halves
-seconds-layer [] y = refl
-seconds-layer (a ∷ x) [] = refl
 seconds-layer (a ∷ x) (b ∷ y) = ap (λ r. half (a + b) 1 ∷ r) (seconds-layer x y)
+seconds-layer _ _ = refl
 
-firsts-halves : (p : ℕ) (x y : List ℕ) → length x ≡ length y → firsts (halves p x y) ≡ halves p (firsts x) (firsts y)
+firsts-halves : (p : ℕ) (x y : List ℕ) → firsts (halves p x y) ≡ halves p (firsts x) (firsts y)
 unfolding halves
-firsts-halves p [] y e = refl
-firsts-halves p (a ∷ []) [] e = refl
-firsts-halves p (a ∷ []) (b ∷ []) e = refl
-firsts-halves p (a ∷ []) (b ∷ c ∷ y) e = absurd (omega arith)
-firsts-halves p (a ∷ d ∷ x) [] e = absurd (omega arith)
-firsts-halves p (a ∷ d ∷ x) (b ∷ []) e = absurd (omega arith)
-firsts-halves p (a ∷ d ∷ x) (b ∷ c ∷ y) e = ap (λ r. half (a + b) p ∷ r) (firsts-halves p x y (omega arith))
+firsts-halves p (a ∷ []) [] = refl
+firsts-halves p (a ∷ d ∷ x) (b ∷ c ∷ y) = ap (λ r. half (a + b) p ∷ r) (firsts-halves p x y)
+firsts-halves p _ _ = refl
 
-seconds-halves : (p : ℕ) (x y : List ℕ) → length x ≡ length y → seconds (halves p x y) ≡ halves p (seconds x) (seconds y)
+seconds-halves : (p : ℕ) (x y : List ℕ) → seconds (halves p x y) ≡ halves p (seconds x) (seconds y)
 unfolding halves
-seconds-halves p [] y e = refl
-seconds-halves p (a ∷ []) [] e = refl
-seconds-halves p (a ∷ []) (b ∷ []) e = refl
-seconds-halves p (a ∷ []) (b ∷ c ∷ y) e = absurd (omega arith)
-seconds-halves p (a ∷ d ∷ x) [] e = absurd (omega arith)
-seconds-halves p (a ∷ d ∷ x) (b ∷ []) e = absurd (omega arith)
-seconds-halves p (a ∷ d ∷ x) (b ∷ c ∷ y) e = ap (λ r. half (d + c) p ∷ r) (seconds-halves p x y (omega arith))
+seconds-halves p (a ∷ []) [] = refl
+seconds-halves p (a ∷ d ∷ x) (b ∷ c ∷ y) = ap (λ r. half (d + c) p ∷ r) (seconds-halves p x y)
+seconds-halves p _ _ = refl
 
 length-halves : (p : ℕ) (x y : List ℕ) → length x ≡ length y → length (halves p x y) ≡ length x
 unfolding halves
@@ -81,10 +70,9 @@ length-halves p (a ∷ x) (b ∷ y) e = ap suc (length-halves p x y (omega arith
 get-or-halves : (p : ℕ) (x y : List ℕ) (i : ℕ) → length x ≡ length y → get_or (halves p x y) i 0 ≡ half (get_or x i 0 + get_or y i 0) p
 unfolding halves
 get-or-halves p [] [] i e = omega arith
-get-or-halves p [] (b ∷ y) i e = absurd (omega arith)
-get-or-halves p (a ∷ x) [] i e = absurd (omega arith)
 get-or-halves p (a ∷ x) (b ∷ y) zero e = refl
 get-or-halves p (a ∷ x) (b ∷ y) (suc i) e = get-or-halves p x y i (omega arith)
+get-or-halves p _ _ i e = absurd (omega arith)
 
 -- the half of the sum of two rows with the step property has it
 halves-is_step : (p : ℕ) (x y : List ℕ) → length x ≡ length y → IsStep x → IsStep y → IsStep (halves p x y)
@@ -97,9 +85,9 @@ halves-is_step p x y e s t = record {
 
 chains-halves : (i p : ℕ) (x y : List ℕ) → length x ≡ length y → StepChains i x → StepChains i y → StepChains i (halves p x y)
 chains-halves zero p x y e s t = halves-is_step p x y e s t
-chains-halves (suc i) p x y e s t = (
-  subst (StepChains i) (sym (firsts-halves p x y e)) (chains-halves i p (firsts x) (firsts y) (same-firsts x y e) s.0 t.0),
-  subst (StepChains i) (sym (seconds-halves p x y e)) (chains-halves i p (seconds x) (seconds y) (same-seconds x y e) s.1 t.1),
+chains-halves (suc i) p x y e s t = rw (firsts-halves p x y, seconds-halves p x y) (
+  chains-halves i p (firsts x) (firsts y) (same-firsts x y e) s.0 t.0,
+  chains-halves i p (seconds x) (seconds y) (same-seconds x y e) s.1 t.1,
 )
 
 -- ---- the cochains have the step chains of one level less
@@ -112,16 +100,10 @@ chains-b i x h = (subst (StepChains i) (sym (firsts-b x)) h.1.0, subst (StepChai
 
 -- and those of level 1 they keep
 steps-a : (x : List ℕ) → StepChains 1 x → StepChains 1 (a_cochain x)
-steps-a x h = (
-  subst IsStep (sym (firsts-a x)) (firsts-is_step (firsts x) h.0),
-  subst IsStep (sym (seconds-a x)) (seconds-is_step (seconds x) h.1),
-)
+steps-a x h = rw (firsts-a x, seconds-a x) (firsts-is_step (firsts x) h.0, seconds-is_step (seconds x) h.1)
 
 steps-b : (x : List ℕ) → StepChains 1 x → StepChains 1 (b_cochain x)
-steps-b x h = (
-  subst IsStep (sym (firsts-b x)) (firsts-is_step (seconds x) h.1),
-  subst IsStep (sym (seconds-b x)) (seconds-is_step (firsts x) h.0),
-)
+steps-b x h = rw (firsts-b x, seconds-b x) (firsts-is_step (seconds x) h.1, seconds-is_step (firsts x) h.0)
 
 -- then their sums differ by at most one
 sum-firsts : (level : ℕ) (x : List ℕ) → IsRow (suc level) x → IsStep x → sum (firsts x) ≡ half (sum x) 0
@@ -132,29 +114,11 @@ sum-seconds : (level : ℕ) (x : List ℕ) → IsRow (suc level) x → IsStep x 
 sum-seconds level x e s = ap (λ r. sum (seconds r)) (step-tree (suc level) x e s) ∙ ap sum (seconds-tree level (sum x))
     ∙ sum-tree level (half (sum x) 1)
 
-sum-a : (level : ℕ) (x : List ℕ) → IsRow (suc (suc level)) x → StepChains 1 x
-    → sum (a_cochain x) ≡ half (sum (firsts x)) 0 + half (sum (seconds x)) 1
-sum-a level x e h =
-    omega (
-      arith,
-      sum_pairs level (a_cochain x) (a_row (suc level) x e),
-      ap sum (firsts-a x),
-      ap sum (seconds-a x),
-      sum-firsts level (firsts x) (firsts-row (suc level) x e) h.0,
-      sum-seconds level (seconds x) (seconds-row (suc level) x e) h.1,
-    )
-
-sum-b : (level : ℕ) (x : List ℕ) → IsRow (suc (suc level)) x → StepChains 1 x
-    → sum (b_cochain x) ≡ half (sum (seconds x)) 0 + half (sum (firsts x)) 1
-sum-b level x e h =
-    omega (
-      arith,
-      sum_pairs level (b_cochain x) (b-row (suc level) x e),
-      ap sum (firsts-b x),
-      ap sum (seconds-b x),
-      sum-firsts level (seconds x) (seconds-row (suc level) x e) h.1,
-      sum-seconds level (firsts x) (firsts-row (suc level) x e) h.0,
-    )
+-- the sum of a row whose even entries are those of f, and whose odd ones are those of s
+sum-parts : (level : ℕ) (x f s : List ℕ) → IsRow (suc level) x → IsRow (suc level) f → IsRow (suc level) s → firsts x ≡ firsts f
+    → seconds x ≡ seconds s → IsStep f → IsStep s → sum x ≡ half (sum f) 0 + half (sum s) 1
+sum-parts level x f s e d g p q h k =
+    omega (arith, sum_pairs level x e, ap sum p, ap sum q, sum-firsts level f d h, sum-seconds level s g k)
 
 -- ---- the law
 
@@ -168,11 +132,8 @@ near-layer level x y e f s t p q =
 -- one balancer, over any two entries
 pair-is_step : (x y : List ℕ) → length x ≡ 1 → length y ≡ 1 → IsStep (layer x y)
 unfolding tree
-pair-is_step [] y e f = absurd (omega arith)
-pair-is_step (a ∷ x) [] e f = absurd (omega arith)
 pair-is_step (a ∷ []) (b ∷ []) e f = tree_is-step 1 (a + b)
-pair-is_step (a ∷ []) (b ∷ c ∷ y) e f = absurd (omega arith)
-pair-is_step (a ∷ c ∷ x) (b ∷ y) e f = absurd (omega arith)
+pair-is_step _ _ e f = absurd (omega arith)
 
 pub block-chains : (level i : ℕ) (x : List ℕ) → i < level → IsRow level x → StepChains (suc i) x → StepChains i (block level x)
 unfolding block
@@ -181,14 +142,13 @@ block-chains (suc zero) zero x l e h = pair-is_step (a_cochain x) (b_cochain x) 
 block-chains (suc (suc level)) zero x l e h =
     let a = a_row (suc level) x e in
     let b = b-row (suc level) x e in
-    let s = block-chains (suc level) zero (a_cochain x) (omega arith) a (steps-a x h) in
-    let t = block-chains (suc level) zero (b_cochain x) (omega arith) b (steps-b x h) in
-    let m : sum (block (suc level) (a_cochain x)) ≡ half (sum (firsts x)) 0 + half (sum (seconds x)) 1 =
-    sum-block (suc level) (a_cochain x) a ∙ sum-a level x e h in
-    let n : sum (block (suc level) (b_cochain x)) ≡ half (sum (seconds x)) 0 + half (sum (firsts x)) 1 =
-    sum-block (suc level) (b_cochain x) b ∙ sum-b level x e h in
+    let f = firsts-row (suc level) x e in
+    let g = seconds-row (suc level) x e in
+    let m = sum-block (suc level) (a_cochain x) a ∙ sum-parts level _ _ _ a f g (firsts-a x) (seconds-a x) h.0 h.1 in
+    let n = sum-block (suc level) (b_cochain x) b ∙ sum-parts level _ _ _ b g f (firsts-b x) (seconds-b x) h.1 h.0 in
     near-layer (suc level) (block (suc level) (a_cochain x)) (block (suc level) (b_cochain x)) (block-row (suc level) _ a)
-    (block-row (suc level) _ b) s t (omega arith) (omega arith)
+    (block-row (suc level) _ b) (block-chains (suc level) zero (a_cochain x) (omega arith) a (steps-a x h))
+    (block-chains (suc level) zero (b_cochain x) (omega arith) b (steps-b x h)) (omega arith) (omega arith)
 block-chains (suc level) (suc i) x l e h =
     let a = a_row level x e in
     let b = b-row level x e in
@@ -196,10 +156,8 @@ block-chains (suc level) (suc i) x l e h =
     let z' = block level (b_cochain x) in
     let s = block-chains level i (a_cochain x) (omega arith) a (chains-a i x h) in
     let t = block-chains level i (b_cochain x) (omega arith) b (chains-b i x h) in
-    let same = block-row level (a_cochain x) a ∙ sym (block-row level (b_cochain x) b) in (
-      subst (StepChains i) (sym (firsts-layer z z')) (chains-halves i 0 z z' same s t),
-      subst (StepChains i) (sym (seconds-layer z z')) (chains-halves i 1 z z' same s t),
-    )
+    let same = block-row level (a_cochain x) a ∙ sym (block-row level (b_cochain x) b) in
+    rw (firsts-layer z z', seconds-layer z z') (chains-halves i 0 z z' same s t, chains-halves i 1 z z' same s t)
 
 pub block-step-chains : (level i : ℕ) (x : List ℕ) → i < level → IsRow level x → HasStepChains (suc i) x → HasStepChains i (block level x)
 block-step-chains level i x l e h =

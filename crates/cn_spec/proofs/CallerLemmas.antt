@@ -11,7 +11,7 @@ pub use Rattle.cn_spec.proofs.Times.{order-times, times-order, times-parts, time
 pub use Rattle.cn_spec.proofs.EachBelow.{each_below, once-next}
 pub use Rattle.cn_spec.proofs.CountShares.{counts-shares, counts-shares-after, first-shares}
 pub use Rattle.cn_spec.proofs.Pigeonhole.{all_below, at_most_once, once_each, once-in, once-there}
-pub use Rattle.cn_spec.proofs.Names.{exit_of-name_of, name-below, name_of-exit_of, range_more}
+pub use Rattle.cn_spec.proofs.Names.{exit_of-name_of, name-below, name_of-exit_of, range_more, share-next, share-stays}
 pub use Rattle.cn_spec.proofs.Shares.{get-or-shares, row_is-shares}
 -- rows, and what networks make of them
 pub use Rattle.cn_spec.proofs.Cochains.{a_row, b-row}

@@ -1,13 +1,13 @@
 -- How many of the numbers below k are i modulo w: the share of i; and of k numbers from m on.
-use Rattle.std.proofs.Common.{◌≡◌, ◌≢◌, ℕ, zero, suc, ◌+◌, ◌-◌, ◌%◌, ◌<◌, ◌⊎◌, inl, inr, cond, eqb, Bool, List, [], ◌∷◌, ◌++◌, map, refl, sym, ap, ◌∙◌, arith, true, false, add-zero}
+use Rattle.std.proofs.Common.{◌≡◌, ℕ, zero, suc, ◌+◌, ◌-◌, ◌%◌, ◌<◌, cond, Bool, List, [], ◌∷◌, map, ap, ◌∙◌, arith, add-zero}
 use Rattle.std.specs.Prelude.{◌==◌}
 use Rattle.std.proofs.lemmas.List.Sorted.{sum_by-IsPermutation}
 use Rattle.std.proofs.lemmas.List.Sums.{sum_by-append, sum_by-cons}
-use Rattle.std.proofs.lemmas.Bool.Decides.{eqb_tells}
-use Rattle.std.proofs.lemmas.List.FromFn.{map-range_with_len_more}
-use Rattle.std.specs.List.{count_by, range_with_len, sum_by}
+use Rattle.std.proofs.lemmas.Bool.Decides.{nat_tests}
+use Rattle.std.proofs.lemmas.List.FromFn.{fill_by_all, get_or-map-range_with_len, length-map-range_with_len}
+use Rattle.std.specs.List.{count_by, range_with_len}
 use Rattle.cn_spec.specs.Step.{IsEachBelow, counts_after, counts_of, share, shares, shares_after}
-use Rattle.cn_spec.proofs.Names.{range_more, share-next, share-stays}
+use Rattle.cn_spec.proofs.Names.{range_next, share-next, share-stays}
 use Rattle.cn_spec.proofs.Shares.{share-is}
 
 -- of k numbers from m on: with the share of m, the share of m + k
@@ -16,31 +16,20 @@ count_after w m i zero h =
     let same : share m w i ≡ share (m + 0) w i = ap (λ (n : ℕ). share n w i) (omega arith) in
     omega (arith, same)
 count_after w m i (suc k) h =
-    ap (λ (c : ℕ). c + share m w i) (ap (count_by is_of) (range_more 0 k ∙ ap (λ n. range_with_len 0 k ++ n ∷ []) (omega arith))
-    ∙ sum_by-append (λ n. cond (is_of n) 1 0) (range_with_len 0 k) (k ∷ []))
-    ∙ each (eqb_tells ((m + k) % w) i) (count_after w m i k h)
+    let list = ap (count_by is_of) (range_next k) ∙ sum_by-append (λ n. cond (is_of n) 1 0) (range_with_len 0 k) (k ∷ []) in
+    let one = sum_by-cons (λ n. cond (is_of n) 1 0) k [] ∙ add-zero (cond (is_of k) 1 0) in
+    let next : share (suc (m + k)) w i ≡ share (m + suc k) w i = ap (λ (n : ℕ). share n w i) (omega arith) in
+    counted list one next (count_after w m i k h)
   where
     is_of : ℕ → Bool
     is_of n = (m + n) % w == i
 
-    one : sum_by (λ n. cond (is_of n) 1 0) (k ∷ []) ≡ cond (is_of k) 1 0
-    one = sum_by-cons (λ n. cond (is_of n) 1 0) k [] ∙ add-zero (cond (is_of k) 1 0)
-
-    next : share (suc (m + k)) w i ≡ share (m + suc k) w i
-    next = ap (λ (n : ℕ). share n w i) (omega arith)
-
-    each : ((eqb ((m + k) % w) i ≡ true) × ((m + k) % w ≡ i)) ⊎ ((eqb ((m + k) % w) i ≡ false) × ((m + k) % w ≢ i))
+    counted : count_by is_of (range_with_len 0 (suc k)) ≡ count_by is_of (range_with_len 0 k) + count_by is_of (k ∷ [])
+        → count_by is_of (k ∷ []) ≡ cond (is_of k) 1 0 → share (suc (m + k)) w i ≡ share (m + suc k) w i
         → count_by is_of (range_with_len 0 k) + share m w i ≡ share (m + k) w i
-        → sum_by (λ n. cond (is_of n) 1 0) (range_with_len 0 k) + sum_by (λ n. cond (is_of n) 1 0) (k ∷ []) + share m w i
-        ≡ share (m + suc k) w i
-    each (inl c) before =
-        let s = share-next (m + k) w i h (sym c.1) in
-        let here : ◌≡◌ {A = ℕ} (cond (is_of k) 1 0) 1 = ap {B = ℕ} (λ q. cond q 1 0) c.0 in
-        omega (arith, before, one, here, next, s.0, s.1)
-    each (inr c) before =
-        let s = share-stays (m + k) w i h (λ x. c.1 (sym x)) in
-        let here : ◌≡◌ {A = ℕ} (cond (is_of k) 1 0) 0 = ap {B = ℕ} (λ q. cond q 1 0) c.0 in
-        omega (arith, before, one, here, next, s)
+        → count_by is_of (range_with_len 0 (suc k)) + share m w i ≡ share (m + suc k) w i
+    counted list one next before =
+        grind (arith, nat_tests, share-next (m + k) w i h, share-stays (m + k) w i h)
 
 no-share : (w i : ℕ) → i < w → share 0 w i ≡ 0
 no-share w i h = share-is 0 w i 0 h (omega arith) (omega (arith, h))
@@ -55,12 +44,8 @@ count-range w i k h =
     ∙ omega (arith, count_after w 0 i k h, no-share w i h, share-of_none-more w i k)
 
 map_same : (f g : ℕ → ℕ) (n : ℕ) → ((i : ℕ) → i < n → f i ≡ g i) → map f (range_with_len 0 n) ≡ map g (range_with_len 0 n)
-map_same f g zero same = refl
-map_same f g (suc n) same =
-    let next : suc n ≡ n + 1 = omega arith in
-    ap (λ k. map f (range_with_len 0 k)) next ∙ map-range_with_len_more f 0 n n (omega arith)
-    ∙ (λ i. map_same f g n (λ j h. same j (omega (arith, h))) i ++ same n (omega arith) i ∷ [])
-    ∙ sym (map-range_with_len_more g 0 n n (omega arith)) ∙ ap (λ k. map g (range_with_len 0 k)) (sym next)
+map_same f g n same = fill_by_all g (map f (range_with_len 0 n)) n 0 (length-map-range_with_len f 0 n)
+    (λ i h. get_or-map-range_with_len f 0 n i i 0 h (omega arith) ∙ same i h)
 
 pub counts-shares : (w k : ℕ) (names : List ℕ) → IsEachBelow k names → counts_of w names ≡ shares k w
 counts-shares w k names each =

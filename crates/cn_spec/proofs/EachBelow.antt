@@ -1,5 +1,5 @@
 -- A list in which each number below m stands once is an order of those numbers.
-use Rattle.std.proofs.Common.{◌≡◌, ℕ, zero, suc, ◌+◌, cond, eqb, List, [], ◌∷◌, ◌++◌, refl, sym, ap, ◌∙◌, subst, subst₂, append_assoc, arith}
+use Rattle.std.proofs.Common.{◌≡◌, ℕ, zero, suc, ◌+◌, cond, eqb, List, [], ◌∷◌, ◌++◌, refl, sym, ap, subst, subst₂, append_assoc, arith}
 use Rattle.std.proofs.lemmas.Bool.{eq-eqb, lt-ltb, le-ltb}
 use Rattle.std.proofs.lemmas.Bool.Decides.{nat_tests}
 use Rattle.std.proofs.lemmas.List.Sorted.{IsPermutation-refl, IsPermutation-trans, IsPermutation-append_left, IsPermutation-append_right, IsPermutation-append_comm}
@@ -8,7 +8,7 @@ use Rattle.std.specs.List.Sorted.{IsPermutation}
 use Rattle.cn_spec.specs.Step.{IsEachBelow}
 use Rattle.cn_spec.specs.Sums.{IsOnceBelow, once_below, times}
 use Rattle.cn_spec.proofs.Times.{times-append, times-cons, times-parts}
-use Rattle.cn_spec.proofs.Names.{range_more}
+use Rattle.cn_spec.proofs.Names.{range_next}
 
 -- one number more
 pub once-next : (m n : ℕ) → once_below (suc m) n ≡ once_below m n + cond (eqb m n) 1 0
@@ -17,15 +17,13 @@ once-next m n = grind (arith, nat_tests)
 -- the greatest number put in anywhere
 pub each_more : (m : ℕ) (xs front back : List ℕ) → xs ≡ front ++ m ∷ back → IsEachBelow m (front ++ back) → IsEachBelow (suc m) xs
 each_more m xs front back e rest =
-    let last : range_with_len 0 (suc m) ≡ range_with_len 0 m ++ m ∷ [] =
-    range_more 0 m ∙ ap (λ k. range_with_len 0 m ++ k ∷ []) (omega arith) in
     let a : IsPermutation (range_with_len 0 m ++ m ∷ []) ((front ++ back) ++ m ∷ []) =
     IsPermutation-append_left (m ∷ []) (range_with_len 0 m) (front ++ back) rest in
     let b : IsPermutation (front ++ (back ++ m ∷ [])) (front ++ m ∷ back) =
     IsPermutation-append_right front (back ++ m ∷ []) (m ∷ back) (IsPermutation-append_comm back (m ∷ [])) in
     let c : IsPermutation ((front ++ back) ++ m ∷ []) (front ++ m ∷ back) =
     subst (λ ys. IsPermutation ys (front ++ m ∷ back)) (sym (append_assoc front back (m ∷ []))) b in
-    subst₂ IsPermutation (sym last) (sym e) (IsPermutation-trans _ _ _ a c)
+    subst₂ IsPermutation (sym (range_next m)) (sym e) (IsPermutation-trans _ _ _ a c)
 
 pub each_below : (m : ℕ) (xs : List ℕ) → IsOnceBelow m xs → IsEachBelow m xs
 each_below zero [] once = IsPermutation-refl []

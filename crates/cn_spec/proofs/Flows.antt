@@ -1,5 +1,5 @@
 -- A flow gives each wire a number. The flows of a part of a list of wires are the part of the flows, and no wire is lost.
-use Rattle.std.proofs.Common.{◌≡◌, ℕ, zero, suc, ◌+◌, ◌*◌, ◌/◌, ◌<◌, true, false, List, [], ◌∷◌, length, map, get_or, refl, sym, ap, ◌∙◌, arith}
+use Rattle.std.proofs.Common.{◌≡◌, ℕ, suc, ◌+◌, ◌*◌, ◌/◌, ◌<◌, true, false, List, [], ◌∷◌, length, map, get_or, refl, sym, ap, ◌∙◌, arith}
 use Rattle.std.proofs.lemmas.List.{length-map, get_or-map}
 use Rattle.std.proofs.lemmas.List.FromFn.{fill_by_all, get_or-map-range_with_len, length-map-range_with_len}
 use Rattle.cn_spec.specs.Sums.{times}
@@ -34,18 +34,16 @@ pub map-b_cochain : (f : ℕ → ℕ) (x : List ℕ) → map f (b_cochain x) ≡
 map-b_cochain f x = map-entries-at f _ _ _ x (ap (λ n. n / 2) (sym (length-map x f))) (λ j h. omega arith)
 
 pub map-interleave : (f : ℕ → ℕ) (x y : List ℕ) → map f (interleave x y) ≡ interleave (map f x) (map f y)
-map-interleave f [] y = refl
-map-interleave f (a ∷ x) [] = refl
 map-interleave f (a ∷ x) (b ∷ y) = ap (λ r. f a ∷ f b ∷ r) (map-interleave f x y)
+map-interleave f _ _ = refl
 
 -- ---- how often a wire stands in the parts
 
 times-pairs : (w n : ℕ) (x : List ℕ) → length x ≡ n * 2 → times w (firsts x) + times w (seconds x) ≡ times w x
 unfolding times
 times-pairs w n [] e = refl
-times-pairs w n (a ∷ []) e = absurd (omega arith)
-times-pairs w zero (a ∷ b ∷ x) e = absurd (omega arith)
 times-pairs w (suc n) (a ∷ b ∷ x) e = omega (arith, times-pairs w n x (omega arith))
+times-pairs w _ _ e = absurd (omega arith)
 
 pub times-evens-odds : (w n : ℕ) (x : List ℕ) → length x ≡ n * 2 → times w (evens x) + times w (odds x) ≡ times w x
 times-evens-odds w n x e = rw (evens-firsts x, odds-seconds x) (times-pairs w n x e)
@@ -53,9 +51,8 @@ times-evens-odds w n x e = rw (evens-firsts x, odds-seconds x) (times-pairs w n 
 times-in-turn : (w n : ℕ) (x : List ℕ) → length x ≡ n * 2 → times w (in_turn x true) + times w (in_turn x false) ≡ times w x
 unfolding times
 times-in-turn w n [] e = refl
-times-in-turn w n (a ∷ []) e = absurd (omega arith)
-times-in-turn w zero (a ∷ b ∷ x) e = absurd (omega arith)
 times-in-turn w (suc n) (a ∷ b ∷ x) e = omega (arith, times-in-turn w n x (omega arith))
+times-in-turn w _ _ e = absurd (omega arith)
 
 pub times-cochains : (w n : ℕ) (x : List ℕ) → length x ≡ n * 2 → times w (a_cochain x) + times w (b_cochain x) ≡ times w x
 times-cochains w n x e = rw (a-in-turn x, b-in-turn x) (times-in-turn w n x e)
@@ -63,6 +60,5 @@ times-cochains w n x e = rw (a-in-turn x, b-in-turn x) (times-in-turn w n x e)
 pub times-interleave : (w : ℕ) (x y : List ℕ) → length x ≡ length y → times w (interleave x y) ≡ times w x + times w y
 unfolding times
 times-interleave w [] [] e = refl
-times-interleave w [] (b ∷ y) e = absurd (omega arith)
-times-interleave w (a ∷ x) [] e = absurd (omega arith)
 times-interleave w (a ∷ x) (b ∷ y) e = omega (arith, times-interleave w x y (omega arith))
+times-interleave w _ _ e = absurd (omega arith)

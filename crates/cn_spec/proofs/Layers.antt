@@ -12,8 +12,6 @@ length-layer (a ∷ x) (b ∷ y) e = omega (arith, length-layer x y (omega arith
 
 pub sum-layer : (x y : List ℕ) → length x ≡ length y → sum (layer x y) ≡ sum x + sum y
 sum-layer [] [] e = refl
-sum-layer [] (b ∷ y) e = absurd (omega arith)
-sum-layer (a ∷ x) [] e = absurd (omega arith)
 sum-layer (a ∷ x) (b ∷ y) e =
     omega (
       arith,
@@ -23,11 +21,11 @@ sum-layer (a ∷ x) (b ∷ y) e =
       sum_by-cons (λ (y : ℕ). y) a x,
       sum_by-cons (λ (y : ℕ). y) b y,
     )
+sum-layer _ _ e = absurd (omega arith)
 
 -- one more balancer
 pub layer-push : (x y : List ℕ) (a b : ℕ) → length x ≡ length y
     → layer (x ++ a ∷ []) (y ++ b ∷ []) ≡ layer x y ++ half (a + b) 0 ∷ half (a + b) 1 ∷ []
 layer-push [] [] a b e = refl
-layer-push [] (d ∷ y) a b e = absurd (omega arith)
-layer-push (c ∷ x) [] a b e = absurd (omega arith)
 layer-push (c ∷ x) (d ∷ y) a b e = ap (λ r. half (c + d) 0 ∷ half (c + d) 1 ∷ r) (layer-push x y a b (omega arith))
+layer-push _ _ a b e = absurd (omega arith)

@@ -1,6 +1,7 @@
 -- Merger: of two rows with the step property it makes the tree's row of their sum.
-use Rattle.std.proofs.Common.{◌≡◌, ℕ, zero, suc, ◌+◌, ◌≤◌, ◌^◌, ◌⊎◌, List, [], ◌∷◌, refl, sym, ap, ap₂, ◌∙◌, inl, inr, subst, arith}
+use Rattle.std.proofs.Common.{◌≡◌, ℕ, zero, suc, ◌+◌, ◌<◌, ◌≤◌, ◌^◌, List, [], ◌∷◌, refl, sym, ap, ap₂, ◌∙◌, inl, inr, subst, arith}
 use Rattle.std.specs.List.{sum}
+use Rattle.std.proofs.lemmas.Bool.{cases_lt}
 use Rattle.cn_spec.specs.Step.{half, shares, IsStep}
 use Rattle.cn_spec.specs.Networks.{IsRow, evens, odds, interleave, layer, merge, tree}
 use Rattle.cn_spec.proofs.Pairs.{firsts, seconds, evens-firsts, odds-seconds, firsts-interleave, seconds-interleave}
@@ -29,19 +30,17 @@ odds-tree level m = odds-seconds (tree (suc level) m) ∙ seconds-tree level m
 -- entry by entry x has what y has, or one more
 IsAbove : List ℕ → List ℕ → Type 0
 IsAbove [] [] = Unit
-IsAbove [] (b ∷ y) = ⊥
-IsAbove (a ∷ x) [] = ⊥
 IsAbove (a ∷ x) (b ∷ y) = (b ≤ a) × (a ≤ b + 1) × IsAbove x y
+IsAbove _ _ = ⊥
 
 above-interleave : (x y u v : List ℕ) → IsAbove x y → IsAbove u v → IsAbove (interleave x u) (interleave y v)
 unfolding IsAbove
 above-interleave [] [] u v p q = tt
+above-interleave (a ∷ x) (b ∷ y) [] [] p q = tt
+above-interleave (a ∷ x) (b ∷ y) (c ∷ u) (d ∷ v) p q = (p.0, p.1, (q.0, q.1, above-interleave x y u v p.2 q.2))
 above-interleave [] (b ∷ y) u v p q = absurd p
 above-interleave (a ∷ x) [] u v p q = absurd p
-above-interleave (a ∷ x) (b ∷ y) [] [] p q = tt
-above-interleave (a ∷ x) (b ∷ y) [] (d ∷ v) p q = absurd q
-above-interleave (a ∷ x) (b ∷ y) (c ∷ u) [] p q = absurd q
-above-interleave (a ∷ x) (b ∷ y) (c ∷ u) (d ∷ v) p q = (p.0, p.1, (q.0, q.1, above-interleave x y u v p.2 q.2))
+above-interleave _ _ _ _ p q = absurd q
 
 above-tree : (level a b : ℕ) → b ≤ a → a ≤ b + 1 → IsAbove (tree level a) (tree level b)
 unfolding IsAbove tree
@@ -50,37 +49,30 @@ above-tree (suc level) a b p q =
     above-interleave _ _ _ _ (above-tree level (half a 0) (half b 0) (omega arith) (omega arith))
     (above-tree level (half a 1) (half b 1) (omega arith) (omega arith))
 
-layer-above : (x y : List ℕ) → IsAbove x y → layer x y ≡ interleave x y
+-- either way round
+layers-above : (x y : List ℕ) → IsAbove x y → (layer x y ≡ interleave x y) × (layer y x ≡ interleave x y)
 unfolding IsAbove
-layer-above [] y p = refl
-layer-above (a ∷ x) [] p = absurd p
-layer-above (a ∷ x) (b ∷ y) p =
-    let e : half (a + b) 0 ≡ a = omega arith in
-    let f : half (a + b) 1 ≡ b = omega arith in
-    ap₂ (λ s t. s ∷ t) e (ap₂ (λ s t. s ∷ t) f (layer-above x y p.2))
-
-layer-below : (x y : List ℕ) → IsAbove x y → layer y x ≡ interleave x y
-unfolding IsAbove
-layer-below [] [] p = refl
-layer-below [] (b ∷ y) p = absurd p
-layer-below (a ∷ x) [] p = absurd p
-layer-below (a ∷ x) (b ∷ y) p =
-    let e : half (b + a) 0 ≡ a = omega arith in
-    let f : half (b + a) 1 ≡ b = omega arith in
-    ap₂ (λ s t. s ∷ t) e (ap₂ (λ s t. s ∷ t) f (layer-below x y p.2))
+layers-above [] [] p = (refl, refl)
+layers-above (a ∷ x) (b ∷ y) p =
+    let (there, back) = layers-above x y p.2 in (
+      ap₂ (λ s t. s ∷ t) (omega arith) (ap₂ (λ s t. s ∷ t) (omega arith) there),
+      ap₂ (λ s t. s ∷ t) (omega arith) (ap₂ (λ s t. s ∷ t) (omega arith) back),
+    )
+layers-above _ _ p = absurd p
 
 pub layer-tree : (level a b : ℕ) → a ≤ b + 1 → b ≤ a + 1 → layer (tree level a) (tree level b) ≡ tree (suc level) (a + b)
 unfolding tree
-layer-tree level a b p q = elim (le-or-ge a b) [ inl h ↦ below h | inr h ↦ above h ]
+layer-tree level a b p q = elim (cases_lt a b) [ inl h ↦ below h | inr h ↦ above h ]
   where
-    le-or-ge : (a b : ℕ) → (a ≤ b) ⊎ (b ≤ a)
-    le-or-ge a b = grind arith
-
     above : b ≤ a → layer (tree level a) (tree level b) ≡ tree (suc level) (a + b)
-    above h = layer-above _ _ (above-tree level a b h p) ∙ ap₂ (λ s t. interleave (tree level s) (tree level t)) (omega arith) (omega arith)
+    above h =
+        (layers-above _ _ (above-tree level a b h p)).0
+        ∙ ap₂ (λ s t. interleave (tree level s) (tree level t)) (omega arith) (omega arith)
 
-    below : a ≤ b → layer (tree level a) (tree level b) ≡ tree (suc level) (a + b)
-    below h = layer-below _ _ (above-tree level b a h q) ∙ ap₂ (λ s t. interleave (tree level s) (tree level t)) (omega arith) (omega arith)
+    below : a < b → layer (tree level a) (tree level b) ≡ tree (suc level) (a + b)
+    below h =
+        (layers-above _ _ (above-tree level b a (omega arith) q)).1
+        ∙ ap₂ (λ s t. interleave (tree level s) (tree level t)) (omega arith) (omega arith)
 
 -- ---- the law
 

@@ -1,6 +1,7 @@
 -- The names that the exits give out are the numbers below m, each once.
-use Rattle.std.proofs.Common.{◌≡◌, ℕ, zero, suc, ◌+◌, ◌-◌, ◌*◌, ◌/◌, ◌%◌, ◌≤◌, ◌<◌, ◌≢◌, ◌↔◌, ◌⊎◌, List, [], ◌∷◌, ◌++◌, map, refl, sym, ap, ap₂, ◌∙◌, inl, inr, subst, subst₂, append_assoc, arith}
-use Rattle.std.proofs.Math.Nat.{le-div_iff_mul-le, div-add-mod', mod-add-div}
+use Rattle.std.proofs.Common.{◌≡◌, ℕ, zero, suc, ◌+◌, ◌-◌, ◌*◌, ◌/◌, ◌%◌, ◌≤◌, ◌<◌, ◌≢◌, ◌↔◌, List, [], ◌∷◌, ◌++◌, map, refl, sym, ap, ap₂, ◌∙◌, inl, inr, subst, subst₂, append_assoc, arith}
+use Rattle.std.proofs.Math.Nat.{eq-or-lt_of_le, le-div_iff_mul-le, div-add-mod', mod-add-div}
+use Rattle.std.proofs.lemmas.Bool.{cases_order}
 use Rattle.std.proofs.lemmas.Nat.{mod_below, div-mul-add, mod-mul-add}
 use Rattle.std.proofs.lemmas.List.FromFn.{map-range_with_len_more}
 use Rattle.std.proofs.lemmas.List.Sorted.{IsPermutation-refl, IsPermutation-trans, IsPermutation-append_left, IsPermutation-append_right, IsPermutation-append_comm}
@@ -37,6 +38,9 @@ pub range_more : (a n : ℕ) → range_with_len a (suc n) ≡ range_with_len a n
 range_more a zero = ap (λ k. k ∷ []) (omega arith)
 range_more a (suc n) = ap (λ r. a ∷ r) (range_more (a + 1) n ∙ ap (λ k. range_with_len (a + 1) n ++ k ∷ []) (omega arith))
 
+pub range_next : (m : ℕ) → range_with_len 0 (suc m) ≡ range_with_len 0 m ++ m ∷ []
+range_next m = range_more 0 m ∙ ap (λ k. range_with_len 0 m ++ k ∷ []) (omega arith)
+
 -- the share of the exit m mod w grows by one, and no other
 pub share-next : (m w i : ℕ) → i < w → i ≡ m % w → (share m w i ≡ m / w) × (share (suc m) w i ≡ m / w + 1)
 share-next m w i h e =
@@ -44,11 +48,8 @@ share-next m w i h e =
     (share-is m w i (m / w) h (omega arith) (omega arith), share-is (suc m) w i (m / w + 1) h (omega arith) (omega arith))
 
 pub share-stays : (m w i : ℕ) → i < w → i ≢ m % w → share (suc m) w i ≡ share m w i
-share-stays m w i h e = elim (below_or_above i (m % w) e) [ inl l ↦ low l | inr l ↦ high l ]
+share-stays m w i h e = elim (cases_order i (m % w)) [ inl q ↦ absurd (e q) | inr o ↦ elim o [ inl l ↦ low l | inr l ↦ high l ] ]
   where
-    below_or_above : (a b : ℕ) → a ≢ b → (a < b) ⊎ (b < a)
-    below_or_above a b n = grind arith
-
     k : m / w * w + m % w ≡ m
     k = div-add-mod' m w
 
@@ -82,13 +83,10 @@ same-flat-map f g a (suc n) e = ap₂ (λ s t. s ++ t) (e a (omega arith) (omega
 one_more : (f g : ℕ → List ℕ) (k x a n : ℕ) → a ≤ k → k < a + n → g k ≡ f k ++ x ∷ [] → ((i : ℕ) → i < a + n → i ≢ k → g i ≡ f i)
     → IsPermutation (flat_map f (range_with_len a n) ++ x ∷ []) (flat_map g (range_with_len a n))
 one_more f g k x a zero l h e s = absurd (omega arith)
-one_more f g k x a (suc n) l h e s = elim (here-or_later a k l) [ inl i ↦ here i | inr i ↦ later i (one_more f g k x (a + 1) n) ]
+one_more f g k x a (suc n) l h e s = elim (eq-or-lt_of_le l) [ inl i ↦ here i | inr i ↦ later i (one_more f g k x (a + 1) n) ]
   where
     rest : List ℕ
     rest = flat_map f (range_with_len (a + 1) n)
-
-    here-or_later : (a k : ℕ) → a ≤ k → (a ≡ k) ⊎ (a < k)
-    here-or_later a k l = grind arith
 
     here : a ≡ k → IsPermutation (flat_map f (range_with_len a (suc n)) ++ x ∷ []) (flat_map g (range_with_len a (suc n)))
     here i =
@@ -120,7 +118,6 @@ names-each_below zero w h = subst (IsPermutation []) (sym (no_names w 0 w (omega
 names-each_below (suc m) w h =
     let r : m % w < w = mod_below m w h in
     IsPermutation-trans _ _ _
-    (subst (λ xs. IsPermutation xs (names m w ++ m ∷ [])) (sym (range_more 0 m ∙ ap (λ k. range_with_len 0 m ++ k ∷ []) (omega arith)))
-    (IsPermutation-append_left (m ∷ []) (range_with_len 0 m) (names m w) (names-each_below m w h)))
+    (rw (range_next m) (IsPermutation-append_left (m ∷ []) (range_with_len 0 m) (names m w) (names-each_below m w h)))
     (one_more (names_at m w) (names_at (suc m) w) (m % w) m 0 w (omega arith) (omega arith) (names-next m w (m % w) r refl)
     (λ i l n. names-stay m w i (omega arith) n))

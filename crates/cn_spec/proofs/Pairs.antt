@@ -7,39 +7,33 @@ use Rattle.cn_spec.specs.Step.{IsStep}
 use Rattle.cn_spec.specs.Networks.{evens, odds, interleave}
 
 abbrev pub firsts : List ℕ → List ℕ
-firsts [] = []
-firsts (a ∷ []) = []
 firsts (a ∷ b ∷ x) = a ∷ firsts x
+firsts _ = []
 
 abbrev pub seconds : List ℕ → List ℕ
-seconds [] = []
-seconds (a ∷ []) = []
 seconds (a ∷ b ∷ x) = b ∷ seconds x
+seconds _ = []
 
 -- ---- places
 
 pub length-firsts : (x : List ℕ) → length (firsts x) ≡ length x / 2
-length-firsts [] = refl
-length-firsts (a ∷ []) = refl
 length-firsts (a ∷ b ∷ x) = omega (arith, length-firsts x)
+length-firsts _ = refl
 
 pub length-seconds : (x : List ℕ) → length (seconds x) ≡ length x / 2
-length-seconds [] = refl
-length-seconds (a ∷ []) = refl
 length-seconds (a ∷ b ∷ x) = omega (arith, length-seconds x)
+length-seconds _ = refl
 
 pub get-or-firsts : (x : List ℕ) (i : ℕ) → i < length x / 2 → get_or (firsts x) i 0 ≡ get_or x (2 * i) 0
-get-or-firsts [] i h = absurd (omega arith)
-get-or-firsts (a ∷ []) i h = absurd (omega arith)
 get-or-firsts (a ∷ b ∷ x) zero h = refl
 get-or-firsts (a ∷ b ∷ x) (suc i) h = let k : 2 * suc i ≡ suc (suc (2 * i)) = omega arith in rw k (get-or-firsts x i (omega arith))
+get-or-firsts _ i h = absurd (omega arith)
 
 pub get-or-seconds : (x : List ℕ) (i : ℕ) → i < length x / 2 → get_or (seconds x) i 0 ≡ get_or x (2 * i + 1) 0
-get-or-seconds [] i h = absurd (omega arith)
-get-or-seconds (a ∷ []) i h = absurd (omega arith)
 get-or-seconds (a ∷ b ∷ x) zero h = refl
 get-or-seconds (a ∷ b ∷ x) (suc i) h = let k : 2 * suc i + 1 ≡ suc (suc (2 * i + 1)) = omega arith in
     rw k (get-or-seconds x i (omega arith))
+get-or-seconds _ i h = absurd (omega arith)
 
 pub evens-firsts : (x : List ℕ) → evens x ≡ firsts x
 evens-firsts x = sym (fill_by_all (λ j. get_or x (2 * j) 0) (firsts x) (length x / 2) 0 (length-firsts x) (get-or-firsts x))
@@ -62,16 +56,13 @@ firsts-interleave (a ∷ x) (b ∷ y) e = ap (λ r. a ∷ r) (firsts-interleave 
 
 pub seconds-interleave : (x y : List ℕ) → length x ≡ length y → seconds (interleave x y) ≡ y
 seconds-interleave [] [] e = refl
-seconds-interleave [] (b ∷ y) e = absurd (omega arith)
-seconds-interleave (a ∷ x) [] e = absurd (omega arith)
 seconds-interleave (a ∷ x) (b ∷ y) e = ap (λ r. b ∷ r) (seconds-interleave x y (omega arith))
+seconds-interleave _ _ e = absurd (omega arith)
 
 -- ---- sums
 
 pub sum-firsts-seconds : (n : ℕ) (x : List ℕ) → length x ≡ n * 2 → sum (firsts x) + sum (seconds x) ≡ sum x
 sum-firsts-seconds n [] e = refl
-sum-firsts-seconds n (a ∷ []) e = absurd (omega arith)
-sum-firsts-seconds zero (a ∷ b ∷ x) e = absurd (omega arith)
 sum-firsts-seconds (suc n) (a ∷ b ∷ x) e =
     omega (
       arith,
@@ -81,6 +72,7 @@ sum-firsts-seconds (suc n) (a ∷ b ∷ x) e =
       sum_by-cons (λ (y : ℕ). y) a (b ∷ x),
       sum_by-cons (λ (y : ℕ). y) b x,
     )
+sum-firsts-seconds _ _ e = absurd (omega arith)
 
 -- ---- they keep the step property
 

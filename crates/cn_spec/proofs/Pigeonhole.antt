@@ -8,7 +8,7 @@ use Rattle.std.specs.List.{range_with_len}
 use Rattle.cn_spec.specs.Step.{IsEachBelow}
 use Rattle.cn_spec.specs.Sums.{IsOnceBelow, once_below, times}
 use Rattle.cn_spec.proofs.EachBelow.{each_more, once-next}
-use Rattle.cn_spec.proofs.Names.{range_more}
+use Rattle.cn_spec.proofs.Names.{range_next}
 use Rattle.cn_spec.proofs.Times.{times-append, times-cons, times-nil, times-order, times-parts}
 
 pub all_below : (m : ℕ) (xs : List ℕ) → length xs ≡ m → ((n : ℕ) → n < m → 1 ≤ times n xs) → IsEachBelow m xs
@@ -33,9 +33,7 @@ all_below (suc m) xs size there =
 once-range : (m n : ℕ) → times n (range_with_len 0 m) ≡ once_below m n
 once-range zero n = times-nil n ∙ grind (arith, nat_tests)
 once-range (suc m) n =
-    let last : range_with_len 0 (suc m) ≡ range_with_len 0 m ++ m ∷ [] =
-    range_more 0 m ∙ ap (λ k. range_with_len 0 m ++ k ∷ []) (omega arith) in
-    let list : times n (range_with_len 0 (suc m)) ≡ times n (range_with_len 0 m ++ m ∷ []) = ap (times n) last in
+    let list : times n (range_with_len 0 (suc m)) ≡ times n (range_with_len 0 m ++ m ∷ []) = ap (times n) (range_next m) in
     omega (arith, list, once-range m n, once-next m n, times-append n (range_with_len 0 m) (m ∷ []), times-cons n m [], times-nil n)
 
 pub once_each : (m : ℕ) (xs : List ℕ) → IsEachBelow m xs → IsOnceBelow m xs

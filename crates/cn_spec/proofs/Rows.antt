@@ -1,7 +1,6 @@
 -- How long the parts of a row are, and that they are all of it.
-use Rattle.std.proofs.Common.{◌≡◌, ℕ, zero, suc, ◌+◌, ◌-◌, ◌*◌, ◌/◌, ◌<◌, ◌^◌, List, length, take, drop, inl, inr, sym, ap, ◌∙◌, length-drop, length-take-le, arith}
+use Rattle.std.proofs.Common.{◌≡◌, ℕ, zero, suc, ◌+◌, ◌-◌, ◌*◌, ◌/◌, ◌<◌, ◌^◌, List, length, take, drop, sym, ap, ◌∙◌, length-drop, length-take-le, arith}
 use Rattle.std.proofs.Math.Nat.{pow-suc, pow-succ'}
-use Rattle.std.proofs.lemmas.Bool.{cases_order}
 use Rattle.std.proofs.lemmas.Nat.{pow_below, pow_pos}
 use Rattle.std.proofs.lemmas.List.Sums.{sum_by-take-drop}
 use Rattle.std.specs.List.{sum}
@@ -47,11 +46,7 @@ shorter n x part row r = let l : length x ≡ 2 * 2 ^ n = row ∙ pow-succ' 2 n 
 
 -- a length has one level
 pub same-level : (n m level : ℕ) → n ≡ 2 ^ m → n ≡ 2 ^ level → level ≡ m
-same-level n m level p q =
-    elim (cases_order level m) [
-      | inl e ↦ e
-      | inr o ↦ elim o [ inl l ↦ absurd (omega (arith, pow_below level m l)) | inr l ↦ absurd (omega (arith, pow_below m level l)) ]
-    ]
+same-level n m level p q = grind (arith, pow_below level m, pow_below m level)
 
 -- ---- sums
 

@@ -1,6 +1,6 @@
 -- The step property and the shares `share m w i`.
-use Rattle.std.proofs.Common.{◌≡◌, ℕ, zero, suc, ◌+◌, ◌-◌, ◌*◌, ◌/◌, ◌%◌, ◌≤◌, ◌<◌, ◌↔◌, List, [], ◌∷◌, length, get_or, refl, sym, ap, ◌∙◌, inl, inr, subst, arith}
-use Rattle.std.proofs.Math.Nat.{div-eq_of_lt-le, le-div_iff_mul-le, div-lt_iff_lt-mul, div-mul-le_self, div-add-mod', lt-div-mul-add, eq-or-lt_of_le}
+use Rattle.std.proofs.Common.{◌≡◌, ℕ, zero, suc, ◌+◌, ◌-◌, ◌*◌, ◌/◌, ◌%◌, ◌≤◌, ◌<◌, ◌↔◌, List, [], ◌∷◌, length, get_or, refl, sym, ap, ◌∙◌, subst, arith}
+use Rattle.std.proofs.Math.Nat.{div-eq_of_lt-le, le-div_iff_mul-le, div-lt_iff_lt-mul, div-mul-le_self, div-add-mod', lt-div-mul-add}
 use Rattle.std.proofs.lemmas.Nat.{mod_below}
 use Rattle.std.proofs.lemmas.List.Sums.{sum_by-cons}
 use Rattle.std.proofs.lemmas.List.FromFn.{get_or-map-range_with_len, length-map-range_with_len, fill_by_all}
@@ -12,29 +12,16 @@ use Rattle.cn_spec.specs.Step.{share, shares, IsStep}
 sum-at_most : (c : ℕ) (x : List ℕ) (n : ℕ) → ((j : ℕ) → j < n → get_or x j 0 ≤ c + 1) → ((j : ℕ) → n ≤ j → j < length x → get_or x j 0 ≤ c)
     → sum x ≤ length x * c + n
 sum-at_most c [] n p q = omega arith
-sum-at_most c (a ∷ x) zero p q =
-    let h : a ≤ c = q 0 (omega arith) (omega arith) in
-    let r : sum x ≤ length x * c + 0 = sum-at_most c x zero (λ j l. omega arith) (λ j l m. q (suc j) (omega arith) (omega arith)) in
-    omega (arith, sum_by-cons (λ (y : ℕ). y) a x)
-sum-at_most c (a ∷ x) (suc n) p q =
-    let h : a ≤ c + 1 = p 0 (omega arith) in
-    let r : sum x ≤ length x * c + n = sum-at_most c x n (λ j l. p (suc j) (omega arith))
-    (λ j l m. q (suc j) (omega arith) (omega arith)) in
-    omega (arith, sum_by-cons (λ (y : ℕ). y) a x)
+sum-at_most c (a ∷ x) n p q =
+    let r = sum-at_most c x (n - 1) (λ j l. p (suc j) (omega arith)) (λ j l m. q (suc j) (omega arith) (omega arith)) in
+    grind (arith, p 0, q 0, sum_by-cons (λ (y : ℕ). y) a x)
 
 sum-at_least : (c : ℕ) (x : List ℕ) (n : ℕ) → n ≤ length x → ((j : ℕ) → j < n → c + 1 ≤ get_or x j 0)
     → ((j : ℕ) → n ≤ j → j < length x → c ≤ get_or x j 0) → length x * c + n ≤ sum x
 sum-at_least c [] n b p q = omega arith
-sum-at_least c (a ∷ x) zero b p q =
-    let h : c ≤ a = q 0 (omega arith) (omega arith) in
-    let r : length x * c + 0 ≤ sum x = sum-at_least c x zero (omega arith) (λ j l. omega arith)
-    (λ j l m. q (suc j) (omega arith) (omega arith)) in
-    omega (arith, sum_by-cons (λ (y : ℕ). y) a x)
-sum-at_least c (a ∷ x) (suc n) b p q =
-    let h : c + 1 ≤ a = p 0 (omega arith) in
-    let r : length x * c + n ≤ sum x = sum-at_least c x n (omega arith) (λ j l. p (suc j) (omega arith))
-    (λ j l m. q (suc j) (omega arith) (omega arith)) in
-    omega (arith, sum_by-cons (λ (y : ℕ). y) a x)
+sum-at_least c (a ∷ x) n b p q =
+    let r = sum-at_least c x (n - 1) (omega arith) (λ j l. p (suc j) (omega arith)) (λ j l m. q (suc j) (omega arith) (omega arith)) in
+    grind (arith, p 0, q 0, sum_by-cons (λ (y : ℕ). y) a x)
 
 -- ---- places of `shares`
 
@@ -57,13 +44,10 @@ shares-at x s i h = go (get_or x i 0) refl
     before j l = (s.no_less j i l h, s.at_most_one_more j i l h)
 
     up_to : (j : ℕ) → j ≤ i → get_or x i 0 ≤ get_or x j 0
-    up_to j l = elim (eq-or-lt_of_le l) [ inl e ↦ omega (arith, ap (λ k. get_or x k 0) e) | inr k ↦ s.no_less j i k h ]
+    up_to j l = grind (arith, s.no_less j i)
 
     after : (j : ℕ) → i ≤ j → j < length x → (get_or x j 0 ≤ get_or x i 0) × (get_or x i 0 ≤ get_or x j 0 + 1)
-    after j l m = elim (eq-or-lt_of_le l) [
-      | inl e ↦ (omega (arith, ap (λ k. get_or x k 0) e), omega (arith, ap (λ k. get_or x k 0) e))
-      | inr k ↦ (s.no_less i j k m, s.at_most_one_more i j k m)
-    ]
+    after j l m = (grind (arith, s.no_less i j), grind (arith, s.at_most_one_more i j))
 
     go : (c : ℕ) → get_or x i 0 ≡ c → c ≡ share (sum x) (length x) i
     go zero e =

@@ -1,6 +1,6 @@
 -- Sums over the places of a list, and over ranges.
 use Rattle.std.proofs.Common.{◌≡◌, ◌≢◌, ℕ, zero, suc, ◌+◌, ◌<◌, ◌≤◌, Bool, true, false, cond, List, [], ◌∷◌, ◌++◌, length, map, get_or, replicate, set, sum_by, refl, sym, ◌∙◌, inl, inr, arith, eqb, ltb, zero-add, slice_index, nat_eq, get_or-set_same, get_or-set_other, ap}
-use Rattle.std.proofs.lemmas.Bool.{cases_eq, eq-eqb, false_from_ne_true, le-ltb, lt-ltb, ne_eqb}
+use Rattle.std.proofs.lemmas.Bool.{cases_Bool, cases_eq, cases_lt, false_from_ne_true, le-ltb}
 use Rattle.std.proofs.lemmas.Bool.Decides.{nat_tests}
 use Rattle.std.proofs.lemmas.List.Sums.{sum_by-cons}
 use Rattle.cn_spec.specs.Sums.{when, one_more, total_where, sum_below}
@@ -30,33 +30,30 @@ total-where-none p (x ∷ xs) d f h =
     let head : p x ≡ false = h 0 (omega arith) in
     rw (head, zero-add) (total-where-none p xs d (λ u. f (suc u)) (λ i k. h (suc i) (omega arith)))
 
--- only the places at which a member passes matter
-pub total-where-agree : {A : Type 0} → (p : A → Bool) (xs : List A) (d : A) (f g : ℕ → ℕ)
-    → ((u : ℕ) → u < length xs → p (get_or xs u d) ≡ true → f u ≡ g u) → total_where p xs f ≡ total_where p xs g
-unfolding total_where
-total-where-agree p [] d f g h = refl
-total-where-agree p (x ∷ xs) d f g h =
-    let rest = total-where-agree p xs d (λ u. f (suc u)) (λ u. g (suc u)) (λ u k e. h (suc u) (omega arith) e) in
-    let first : when (p x) (f 0) ≡ when (p x) (g 0) =
-    elim (p x) as (λ t. (t ≡ true → f 0 ≡ g 0) → when t (f 0) ≡ when t (g 0)) [ true ↦ λ k. k refl | false ↦ λ k. refl ]
-    (h 0 (omega arith)) in
-    rw (first, rest)
-
 pub total-where-mono : {A : Type 0} → (p : A → Bool) (xs : List A) (d : A) (f g : ℕ → ℕ)
     → ((u : ℕ) → u < length xs → p (get_or xs u d) ≡ true → f u ≤ g u) → total_where p xs f ≤ total_where p xs g
 unfolding total_where
 total-where-mono p [] d f g h = omega arith
-total-where-mono p (x ∷ xs) d f g h =
-    let rest = total-where-mono p xs d (λ u. f (suc u)) (λ u. g (suc u)) (λ u k e. h (suc u) (omega arith) e) in
-    let first : when (p x) (f 0) ≤ when (p x) (g 0) =
-    elim (p x) as (λ t. (t ≡ true → f 0 ≤ g 0) → when t (f 0) ≤ when t (g 0)) [ true ↦ λ k. k refl | false ↦ λ k. omega arith ]
-    (h 0 (omega arith)) in
-    omega arith
+total-where-mono p (x ∷ xs) d f g h = grind (
+  arith,
+  cases_Bool (p x),
+  h 0 (omega arith),
+  total-where-mono p xs d (λ u. f (suc u)) (λ u. g (suc u)) (λ u k e. h (suc u) (omega arith) e),
+)
+
+-- only the places at which a member passes matter
+pub total-where-agree : {A : Type 0} → (p : A → Bool) (xs : List A) (d : A) (f g : ℕ → ℕ)
+    → ((u : ℕ) → u < length xs → p (get_or xs u d) ≡ true → f u ≡ g u) → total_where p xs f ≡ total_where p xs g
+total-where-agree p xs d f g h = omega (
+  arith,
+  total-where-mono p xs d f g (λ u k e. omega (arith, h u k e)),
+  total-where-mono p xs d g f (λ u k e. omega (arith, h u k e)),
+)
 
 pub total-where-zero : {A : Type 0} → (p : A → Bool) (xs : List A) → total_where p xs (λ _. 0) ≡ 0
 unfolding total_where
 total-where-zero p [] = refl
-total-where-zero p (x ∷ xs) = rw (total-where-zero p xs) (elim (p x) as (λ t. when t 0 + 0 ≡ 0) [ true ↦ refl | false ↦ refl ])
+total-where-zero p (x ∷ xs) = grind (arith, cases_Bool (p x), total-where-zero p xs)
 
 -- a term is at most the sum
 pub total-where-part : {A : Type 0} → (p : A → Bool) (xs : List A) (d : A) (f : ℕ → ℕ) (u : ℕ) → u < length xs → p (get_or xs u d) ≡ true
@@ -107,9 +104,7 @@ total-where-more p (y ∷ xs) x = omega (arith, total-where-more p xs x)
 pub total-where-le : {A : Type 0} → (p : A → Bool) (xs : List A) → total_where p xs (λ _. 1) ≤ length xs
 unfolding total_where
 total-where-le p [] = omega arith
-total-where-le p (x ∷ xs) =
-    let rest = total-where-le p xs in
-    elim (p x) as (λ t. when t 1 + total_where p xs (λ _. 1) ≤ length (x ∷ xs)) [ true ↦ omega arith | false ↦ omega arith ]
+total-where-le p (x ∷ xs) = grind (arith, cases_Bool (p x), total-where-le p xs)
 
 pub total-where-map : {A B : Type 0} → (p : B → Bool) (g : A → B) (xs : List A) (f : ℕ → ℕ)
     → total_where p (map g xs) f ≡ total_where (λ x. p (g x)) xs f
@@ -134,9 +129,8 @@ total-where-one p (x ∷ xs) zero d f h e o =
     (λ u k. false_from_ne_true (p (get_or xs u d)) (λ q. let z = o (suc u) (omega arith) q in omega arith)) in
     rw (e, none) (omega arith)
 total-where-one p (x ∷ xs) (suc w) d f h e o =
-    let off : p x ≡ false = false_from_ne_true (p x) (λ q. let z = o 0 (omega arith) q in omega arith) in
     let rest = total-where-one p xs w d (λ u. f (suc u)) (omega arith) e (λ u k q. let z = o (suc u) (omega arith) q in omega arith) in
-    rw (off, rest) (omega arith)
+    grind (arith, cases_Bool (p x), o 0 (omega arith), rest)
 
 -- two sums that are shifted alike
 pub total-where-shift : {A : Type 0} → (p : A → Bool) (xs : List A) (f a g b : ℕ → ℕ) → ((u : ℕ) → u < length xs → f u + a u ≡ g u + b u)
@@ -146,9 +140,7 @@ total-where-shift p [] f a g b h = refl
 total-where-shift p (x ∷ xs) f a g b h =
     let rest = total-where-shift p xs (λ u. f (suc u)) (λ u. a (suc u)) (λ u. g (suc u)) (λ u. b (suc u))
     (λ u k. h (suc u) (omega arith)) in
-    let first : when (p x) (f 0) + when (p x) (a 0) ≡ when (p x) (g 0) + when (p x) (b 0) =
-    elim (p x) as (λ q. when q (f 0) + when q (a 0) ≡ when q (g 0) + when q (b 0)) [ true ↦ h 0 (omega arith) | false ↦ refl ] in
-    omega arith
+    grind (arith, cases_Bool (p x), h 0 (omega arith), rest)
 
 -- ---- sums over ranges
 
@@ -192,49 +184,36 @@ sum-below-front (suc n) f = omega (arith, sum-below-front n f)
 
 -- one term is v more
 pub sum-below-pick : (n b v : ℕ) (g : ℕ → ℕ) → b < n → sum_below n (λ c. when (eqb b c) v + g c) ≡ v + sum_below n g
-unfolding sum_below
-sum-below-pick zero b v g h = absurd (omega arith)
-sum-below-pick (suc n) b v g h =
-    elim (cases_eq b n) [
-      | inl e ↦
-          rw (sum-below-same n (λ c. when (eqb b c) v + g c) g (λ u k. rw (ne_eqb b u (λ q. omega arith)) (zero-add (g u))), eq-eqb b n e)
-          (omega arith)
-      | inr d ↦ rw (sum-below-pick n b v g (omega arith), ne_eqb b n d) (omega arith)
-    ]
+sum-below-pick n b v g h =
+    let e = sum-below-change n b v g (λ c. when (eqb b c) v + g c) (λ u. grind (arith, nat_tests)) in
+    grind (arith, nat_tests)
 
 -- only one term
 pub sum-below-one : (n b v : ℕ) → b < n → sum_below n (λ c. when (eqb b c) v) ≡ v
 sum-below-one n b v h =
-    let a = sum-below-pick n b v (λ _. 0) h in
-    let same = sum-below-same n (λ c. when (eqb b c) v + 0) (λ c. when (eqb b c) v) (λ c l. omega arith) in
-    omega (arith, sum-below-zero n (λ _. 0) (λ _. refl))
+    let a = sum-below-change n b v (λ _. 0) (λ c. when (eqb b c) v) (λ u. grind (arith, nat_tests)) in
+    grind (arith, nat_tests, sum-below-zero n (λ _. 0) (λ _. refl))
 
 -- a term is at most the sum
 pub sum-below-part : (n b : ℕ) (f : ℕ → ℕ) → b < n → f b ≤ sum_below n f
 unfolding sum_below
 sum-below-part zero b f h = absurd (omega arith)
-sum-below-part (suc n) b f h = elim (cases_eq b n)
-    [ inl e ↦ rw e (omega arith) | inr d ↦ omega (arith, sum-below-part n b f (omega arith)) ]
+sum-below-part (suc n) b f h = grind (arith, sum-below-part n b f)
 
 -- and two terms together are
 pub sum-below-parts : (n a b : ℕ) (f : ℕ → ℕ) → a < n → b < n → a ≢ b → f a + f b ≤ sum_below n f
 unfolding sum_below
 sum-below-parts zero a b f h k d = absurd (omega arith)
-sum-below-parts (suc n) a b f h k d = elim (cases_eq a n) [
-  | inl e ↦ rw e (omega (arith, sum-below-part n b f (omega arith)))
-  | inr da ↦ elim (cases_eq b n) [
-    | inl e ↦ rw e (omega (arith, sum-below-part n a f (omega arith)))
-    | inr db ↦ omega (arith, sum-below-parts n a b f (omega arith) (omega arith) d)
-  ]
-]
+sum-below-parts (suc n) a b f h k d = grind (arith, sum-below-part n a f, sum-below-part n b f, sum-below-parts n a b f)
 
 -- a sum of which the terms from m on are left out
 pub sum-below-cut : (n m : ℕ) (f : ℕ → ℕ) → m ≤ n → sum_below n (λ u. when (ltb u m) (f u)) ≡ sum_below m f
 unfolding sum_below
 sum-below-cut zero m f h = let e : m ≡ 0 = omega arith in rw e refl
-sum-below-cut (suc n) m f h = elim (cases_eq m (suc n)) [
-  | inl e ↦ rw e (sum-below-same (suc n) (λ u. when (ltb u (suc n)) (f u)) f (λ u l. rw (lt-ltb u (suc n) l) refl))
-  | inr d ↦ rw (le-ltb n m (omega arith)) (omega (arith, sum-below-cut n m f (omega arith)))
+sum-below-cut (suc n) m f h = elim (cases_lt n m) [
+  | inl l ↦ let e : m ≡ suc n = omega arith in
+      rw e (sum-below-same (suc n) (λ u. when (ltb u (suc n)) (f u)) f (λ u k. grind (arith, nat_tests)))
+  | inr l ↦ rw (le-ltb n m l) (omega (arith, sum-below-cut n m f l))
 ]
 
 module _ {X : Type 0} where
@@ -258,9 +237,8 @@ module _ {X : Type 0} where
 
 -- before anything is counted
 pub zero_at : (n i : ℕ) → slice_index (replicate n 0) i ≡ 0
-zero_at zero i = refl
-zero_at (suc n) zero = refl
 zero_at (suc n) (suc i) = zero_at n i
+zero_at _ _ = refl
 
 -- one more at a place
 pub one_more-at : (counts : List ℕ) (i j : ℕ) → i < length counts

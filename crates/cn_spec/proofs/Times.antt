@@ -38,10 +38,9 @@ times-member (x ∷ xs) (suc i) h = omega (arith, times-member xs i (omega arith
 -- two places with one member
 pub times-two : (xs : List ℕ) (i j : ℕ) → i < j → j < length xs → get_or xs i 0 ≡ get_or xs j 0 → 2 ≤ times (get_or xs j 0) xs
 unfolding times
-times-two [] i j h k e = elim k [ ]
-times-two (x ∷ xs) i zero h k e = absurd (omega arith)
 times-two (x ∷ xs) zero (suc j) h k e = rw (eq-eqb x (get_or xs j 0) e) (omega (arith, times-member xs j (omega arith)))
 times-two (x ∷ xs) (suc i) (suc j) h k e = omega (arith, times-two xs i j (omega arith) (omega arith) e)
+times-two _ i _ h k e = absurd (omega arith)
 
 -- a member has a place
 pub times-place : (xs : List ℕ) (w : ℕ) → 1 ≤ times w xs → (i : ℕ) × (i < length xs) × (get_or xs i 0 ≡ w)
@@ -60,8 +59,7 @@ times-parts n (x ∷ xs) h =
     elim (cases_eq x n) [
       | inl e ↦ ([], xs, ap (λ k. k ∷ xs) e)
       | inr d ↦
-          let none : ◌≡◌ {A = ℕ} (cond (eqb x n) 1 0) 0 = ap {B = ℕ} (λ q. cond q 1 0) (ne_eqb x n d) in
-          let (front, back, e) = times-parts n xs (omega (arith, times-cons n x xs)) in
+          let (front, back, e) = times-parts n xs (let k = rw (times-cons n x xs, ne_eqb x n d) at h in omega arith) in
           (x ∷ front, back, ap (λ r. x ∷ r) e)
     ]
 
@@ -97,9 +95,7 @@ order-times (x ∷ xs) ys same =
 pub times-outside : (w a n : ℕ) → (w < a) ⊎ (a + n ≤ w) → times w (range_with_len a n) ≡ 0
 unfolding times
 times-outside w a zero h = refl
-times-outside w a (suc n) h =
-    rw (ne_eqb a w (λ e. elim h [ inl l ↦ omega arith | inr g ↦ omega arith ]))
-    (omega (arith, times-outside w (a + 1) n (elim h [ inl l ↦ inl (omega arith) | inr g ↦ inr (omega arith) ])))
+times-outside w a (suc n) h = rw (ne_eqb a w (λ e. grind arith)) (omega (arith, times-outside w (a + 1) n (grind arith)))
 
 pub times-inside : (w a n : ℕ) → a ≤ w → w < a + n → times w (range_with_len a n) ≡ 1
 unfolding times

@@ -11,16 +11,10 @@ use Rattle.cn_spec.proofs.Interleave.{length-interleave, get-or-even, get-or-odd
 
 -- ---- the shares of the even exits and of the odd ones are those of the halves
 
-share-even : (m h i : ℕ) → i < h → share m (h * 2) (i + i) ≡ share (half m 0) h i
-share-even m h i l =
-    ap (λ k. (m + h * 2 - 1 - (i + i)) / k) (omega arith)
-    ∙ sym (div-div-eq-div-mul (m + h * 2 - 1 - (i + i)) 2 h)
-    ∙ ap (λ n. n / h) (omega arith)
-
-share-odd : (m h i : ℕ) → i < h → share m (h * 2) (i + i + 1) ≡ share (half m 1) h i
-share-odd m h i l =
-    ap (λ k. (m + h * 2 - 1 - (i + i + 1)) / k) (omega arith)
-    ∙ sym (div-div-eq-div-mul (m + h * 2 - 1 - (i + i + 1)) 2 h)
+share-part : (m h i p : ℕ) → i < h → p < 2 → share m (h * 2) (i + i + p) ≡ share (half m p) h i
+share-part m h i p l k =
+    ap (λ n. (m + h * 2 - 1 - (i + i + p)) / n) (omega arith)
+    ∙ sym (div-div-eq-div-mul (m + h * 2 - 1 - (i + i + p)) 2 h)
     ∙ ap (λ n. n / h) (omega arith)
 
 pub even-or-odd : (k : ℕ) → (k ≡ k / 2 + k / 2) ⊎ (k ≡ k / 2 + k / 2 + 1)
@@ -42,13 +36,13 @@ interleave-steps m h = fill_by_all (share m (h * 2)) (interleave x y) (h * 2) 0
 
     even : (k : ℕ) → k < h * 2 → k ≡ k / 2 + k / 2 → get_or (interleave x y) k 0 ≡ share m (h * 2) k
     even k l e =
-        ap (λ n. get_or (interleave x y) n 0) e ∙ get-or-even x y (k / 2) same
-        ∙ get-or-shares (half m 0) h (k / 2) (omega arith) ∙ sym (share-even m h (k / 2) (omega arith)) ∙ ap (share m (h * 2)) (sym e)
+        ap (λ n. get_or (interleave x y) n 0) e ∙ get-or-even x y (k / 2) same ∙ get-or-shares (half m 0) h (k / 2) (omega arith)
+        ∙ sym (share-part m h (k / 2) 0 (omega arith) (omega arith)) ∙ ap (share m (h * 2)) (omega arith)
 
     odd : (k : ℕ) → k < h * 2 → k ≡ k / 2 + k / 2 + 1 → get_or (interleave x y) k 0 ≡ share m (h * 2) k
     odd k l e =
-        ap (λ n. get_or (interleave x y) n 0) e ∙ get-or-odd x y (k / 2) same
-        ∙ get-or-shares (half m 1) h (k / 2) (omega arith) ∙ sym (share-odd m h (k / 2) (omega arith)) ∙ ap (share m (h * 2)) (sym e)
+        ap (λ n. get_or (interleave x y) n 0) e ∙ get-or-odd x y (k / 2) same ∙ get-or-shares (half m 1) h (k / 2) (omega arith)
+        ∙ sym (share-part m h (k / 2) 1 (omega arith) (omega arith)) ∙ ap (share m (h * 2)) (sym e)
 
 -- ---- the law
 

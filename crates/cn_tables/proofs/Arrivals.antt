@@ -1,6 +1,6 @@
 -- Counting the wires that end at each balancer and exit.
-use Rattle.std.proofs.Common.{◌≡◌, ℕ, ◌+◌, ◌<◌, inl, inr, false, eqb, List, ◌^◌, replicate, length, get_or, set, take, refl, sym, ◌∙◌, arith, length-set, get_or-set_same, get_or-set_other}
-use Rattle.std.proofs.lemmas.Bool.{cases_eq, eq-eqb, ne_eqb}
+use Rattle.std.proofs.Common.{◌≡◌, ℕ, ◌+◌, ◌<◌, false, eqb, List, ◌^◌, replicate, length, get_or, set, take, ◌∙◌, arith, length-set, get_or-set_same, get_or-set_other}
+use Rattle.std.proofs.lemmas.Bool.Decides.{nat_tests}
 use Rattle.std.proofs.lemmas.List.{take_more, length-replicate, get_or-replicate, length-take-le}
 use Rattle.cn_tables.specs.declared.end.End.{End}
 use Rattle.cn_tables.specs.declared.end.End.TheVariants.{Balancer, Exit}
@@ -29,12 +29,14 @@ module _ {n : ℕ} {ends : List End} {counts : List ℕ} {i : ℕ} (place : ℕ 
     len = length-set counts c (get_or counts c 0 + 1) ∙ l.len;
     each = λ b m.
         rw (take_more ends i (Balancer 0) h, e, total-where-more (is_end (place b)) (take i ends) (place c), same b)
-        (elim (cases_eq c b) [
-          | inl q ↦ let here : c < length counts = omega (arith, l.len) in
-              rw (← q, get_or-set_same counts c (get_or counts c 0 + 1) 0 here, eq-eqb c c refl, l.each c k)
-          | inr d ↦
-              rw (get_or-set_other counts c b (get_or counts c 0 + 1) 0 (λ q. d (sym q)), ne_eqb c b d, l.each b m) (omega arith)
-        ]);
+        (let here : c < length counts = omega (arith, l.len) in
+        grind (
+          arith,
+          nat_tests,
+          l.each b m,
+          get_or-set_same counts c (get_or counts c 0 + 1) 0 here,
+          get_or-set_other counts c b (get_or counts c 0 + 1) 0,
+        ));
   }
 
   -- the next wire ends elsewhere

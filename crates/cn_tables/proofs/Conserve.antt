@@ -51,7 +51,5 @@ wires-sum t f p (suc n) k =
 pub full-flow-sum : (t : Table) → IsWellFormed t → (f : ℕ → ℕ) → IsFullFlow t f
     → sum_below t.width (λ i. sum_at t (Exit i) f) ≡ sum_below t.entries f
 full-flow-sum t w f p =
-    let a = count-twice t t.ends f w.stands in
-    let b = wires-sum t f p t.balancers (omega arith) in
     let c : sum_below (length t.ends) f ≡ sum_below (t.entries + 2 * t.balancers) f = ap (λ n. sum_below n f) w.wires in
-    omega arith
+    omega (arith, count-twice t t.ends f w.stands, wires-sum t f p t.balancers (omega arith))

@@ -1,8 +1,9 @@
 -- A full flow brings each end at most what entered.
-use Rattle.std.proofs.Common.{◌≡◌, ℕ, suc, ◌+◌, ◌*◌, ◌≤◌, inl, inr, List, [], ◌∷◌, length, refl, arith, eqb, ltb, zero-add}
-use Rattle.std.proofs.lemmas.Bool.{cases_lt, ne_eqb, lt-ltb}
+use Rattle.std.proofs.Common.{◌≡◌, ℕ, suc, ◌+◌, ◌*◌, ◌≤◌, List, [], ◌∷◌, length, refl, arith, eqb, ltb, zero-add}
+use Rattle.std.proofs.lemmas.Bool.Decides.{nat_tests}
+use Rattle.std.proofs.lemmas.Bool.{lt-ltb}
 use Rattle.cn_spec.specs.Sums.{when, total_where, sum_below}
-use Rattle.cn_spec.proofs.CallerLemmas.{sum-below-cut, sum-below-front, sum-below-part, sum-below-pick, sum-below-same, sum-below-zero, total-where-agree}
+use Rattle.cn_spec.proofs.CallerLemmas.{sum-below-change, sum-below-cut, sum-below-front, sum-below-part, sum-below-same, sum-below-zero, total-where-agree}
 use Rattle.cn_tables.specs.declared.end.End.{End}
 use Rattle.cn_tables.specs.declared.end.End.TheVariants.{Balancer, Exit}
 use Rattle.cn_tables.specs.Table.{Table, is_end, sum_at, Stands, IsWellFormed, IsFullFlow}
@@ -16,12 +17,8 @@ at_most_once n [] f = omega (arith, sum-below-zero n (λ _. 0) (λ _. refl))
 at_most_once n (Balancer c ∷ xs) f =
     let rest = at_most_once n xs (λ u. f (suc u)) in
     let g : ℕ → ℕ = λ b. total_where (is_end (Balancer b)) xs (λ u. f (suc u)) in
-    elim (cases_lt c n) [
-      | inl l ↦ omega (arith, sum-below-pick n c (f 0) g l, sum-below-front (length xs) f)
-      | inr l ↦
-          let same = sum-below-same n (λ b. when (eqb c b) (f 0) + g b) g (λ b k. rw (ne_eqb c b (λ e. omega arith)) (zero-add (g b))) in
-          omega (arith, sum-below-front (length xs) f)
-    ]
+    let one = sum-below-change n c (f 0) g (λ b. when (eqb c b) (f 0) + g b) (λ b. grind (arith, nat_tests)) in
+    grind (arith, nat_tests, sum-below-front (length xs) f)
 at_most_once n (Exit j ∷ xs) f =
     let rest = at_most_once n xs (λ u. f (suc u)) in
     let g : ℕ → ℕ = λ b. total_where (is_end (Balancer b)) xs (λ u. f (suc u)) in

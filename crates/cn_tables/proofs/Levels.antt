@@ -76,8 +76,7 @@ module _ (t : Table) (w : IsWellFormed t) where
     )
       where
         zero-or-one : (m p : ℕ) → p < 2 → (m + p ≡ m) ⊎ (m + p ≡ m + 1)
-        zero-or-one m zero h = inl (omega arith)
-        zero-or-one m (suc p) h = inr (omega arith)
+        zero-or-one m p h = grind arith
 
     pub levels : (lv : ℕ → ℕ) × IsLevel t n lv
     levels = let (lv, is, _) = path-levels in (lv, is)

@@ -20,11 +20,7 @@ into-agree d w b f g h = total-where-agree (ends_at b) d.ends None f g (λ u k e
 
 -- one balancer more
 agree-more : (n : ℕ) (f g : ℕ → ℕ) → Agree n f g → f n ≡ g n → f (n + 1) ≡ g (n + 1) → Agree (n + 2) f g
-agree-more n f g h p q u k =
-    elim (cases_lt u n) [
-      | inl l ↦ h u l
-      | inr l ↦ elim (cases_eq u n) [ inl e ↦ rw e p | inr d ↦ let e : u ≡ n + 1 = omega arith in rw e q ]
-    ]
+agree-more n f g h p q u k = grind (arith, h u)
 
 agree-upto : (d : Plan) → IsOrderly d → (f g : ℕ → ℕ) → IsFlow d f → IsFlow d g → Agree d.entries f g → (b : ℕ) → b ≤ d.balancers
     → Agree (d.entries + 2 * b) f g

@@ -11,7 +11,7 @@ use Rattle.cn_tables.specs.Table.{Table, is_end, sum_at, Stands, LeadsOn, IsWell
 use Rattle.cn_spec.specs.declared.limits.TheConstants.{MOST_ENDS}
 use Rattle.cn_spec.proofs.CallerLemmas.{times-member, times-place, times-two, total-where-one}
 use Rattle.cn_tables.proofs.CallerLemmas.{into-passages}
-use Rattle.cn_wiring.proofs.Marks.{below_from-loose, loose_in}
+use Rattle.cn_wiring.proofs.Marks.{below_from-loose, ends_at-loose, loose_in}
 
 at_most_one : (es : List (Option ℕ)) (w : ℕ) → loose_in es w ≤ 1
 at_most_one es w = elim (is_none (get_or es w (Some 0))) as (λ t. when t 1 ≤ 1) [ true ↦ omega arith | false ↦ omega arith ]
@@ -22,12 +22,6 @@ AreLooseOnce es ws = (w : ℕ) → times w ws ≤ when (is_none (get_or es w (So
 
 pub exit-below : (es : List (Option ℕ)) (ws : List ℕ) (i : ℕ) → AreLooseOnce es ws → i < length ws → get_or ws i 0 < length es
 exit-below es ws i h k = below_from-loose es (get_or ws i 0) (let a = h (get_or ws i 0) in let b = times-member ws i k in omega arith)
-
-none_there : (es : List (Option ℕ)) (ws : List ℕ) (i : ℕ) → AreLooseOnce es ws → i < length ws → get_or es (get_or ws i 0) (Some 0) ≡ None
-none_there es ws i h k =
-    elim (get_or es (get_or ws i 0) (Some 0)) as (λ o. 1 ≤ when (is_none o) 1 → o ≡ None)
-    [ None ↦ λ _. refl | Some x ↦ λ l. absurd (omega arith) ]
-    (let a = h (get_or ws i 0) in let b = times-member ws i k in omega arith)
 
 -- the first i exits have their wires
 pub record Closed (ends : List (Option ℕ)) (exits : List ℕ) (closed : List End) (i : ℕ) : Type 0 where
@@ -42,7 +36,8 @@ pub Closed-more : (ends : List (Option ℕ)) (exits : List ℕ) (closed : List E
     → Closed ends exits (set closed (get_or exits i 0) (Exit i)) (i + 1)
 Closed-more ends exits closed i h k c =
     let w : ℕ = get_or exits i 0 in
-    let same : set ends w None ≡ ends = rw (← none_there ends exits i h k) (set-get_or ends w (Some 0)) in
+    let none = ends_at-loose ends w (let a = h w in let b = times-member exits i k in omega arith) in
+    let same : set ends w None ≡ ends = rw (← none) (set-get_or ends w (Some 0)) in
     let n : length closed ≡ length ends = sym (length-map closed balancer_of) ∙ ap length c.plan in
     let here : w < length closed = let b = exit-below ends exits i h k in omega arith in
     record {

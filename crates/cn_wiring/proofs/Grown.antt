@@ -1,6 +1,7 @@
 -- What a balancer over loose wires does to a plan.
-use Rattle.std.proofs.Common.{◌≡◌, ℕ, ◌+◌, ◌<◌, ◌≤◌, ◌⊎◌, inl, inr, false, List, [], ◌∷◌, ◌++◌, length, get_or, refl, sym, ◌∙◌, arith, eqb, Some, None, length-append, sum_by, add-zero}
+use Rattle.std.proofs.Common.{◌≡◌, ℕ, ◌+◌, ◌<◌, ◌≤◌, ◌⊎◌, inl, inr, false, List, [], ◌∷◌, ◌++◌, length, get_or, refl, ◌∙◌, arith, eqb, Some, None, length-append, sum_by, add-zero}
 use Rattle.std.proofs.lemmas.Bool.{cases_eq, eq-eqb, ne_eqb}
+use Rattle.std.proofs.lemmas.Bool.Decides.{nat_tests}
 use Rattle.std.proofs.lemmas.List.Sums.{sum_by-cons}
 use Rattle.cn_spec.specs.Step.{half}
 use Rattle.cn_spec.specs.Sums.{when, times}
@@ -93,15 +94,7 @@ kept-grown d ws o h n w k l us p = l us (old-path d ws o h w us k p)
 
 one_of_two : (w x y : ℕ) → 1 ≤ times w (x ∷ y ∷ []) → (w ≡ x) ⊎ (w ≡ y)
 unfolding times
-one_of_two w x y k =
-    elim (cases_eq x w) [
-      | inl e ↦ inl (sym e)
-      | inr n ↦ elim (cases_eq y w) [
-        | inl e ↦ inr (sym e)
-        | inr m ↦
-            let z : 1 ≤ when false 1 + (when false 1 + 0) = rw (ne_eqb x w n, ne_eqb y w m) at k in absurd (omega arith)
-      ]
-    ]
+one_of_two w x y k = grind (arith, nat_tests)
 
 level-grown : (d : Plan) (ws : List ℕ) → IsOrderly d → AllLoose d ws → (n q w : ℕ) → q < 2 → w ≡ next_wire d + q → Each (HasLevel d n) ws
     → HasLevel (grown d ws) (n + 1) w

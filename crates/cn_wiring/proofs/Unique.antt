@@ -1,6 +1,6 @@
 -- A plan with its exits in order has one table.
-use Rattle.std.proofs.Common.{◌≡◌, ℕ, ◌<◌, inl, inr, List, length, get_or, map, refl, sym, ap, ◌∙◌, subst, arith, None, true}
-use Rattle.std.proofs.lemmas.Bool.{cases_eq, cases_lt, eq-eqb}
+use Rattle.std.proofs.Common.{◌≡◌, ℕ, ◌<◌, List, length, get_or, map, refl, sym, ap, ◌∙◌, subst, arith, None, true}
+use Rattle.std.proofs.lemmas.Bool.{eq-eqb}
 use Rattle.std.proofs.lemmas.List.{ext_get_or, get_or-map, get_or_past, length-map}
 use Rattle.cn_spec.proofs.CallerLemmas.{total-where-parts}
 use Rattle.cn_tables.specs.declared.end.End.{End}
@@ -12,21 +12,15 @@ use Rattle.cn_tables.proofs.CallerLemmas.{from-balancer}
 
 -- a wire that ends at an exit is one of the table
 ends-there : (t : Table) (u i : ℕ) → end_of t u ≡ Exit i → u < length t.ends
-ends-there t u i e = elim (cases_lt u (length t.ends)) [
-  | inl h ↦ h
-  | inr past ↦ let no : Balancer 0 ≡ Exit i = sym (get_or_past t.ends u (Balancer 0) past) ∙ e in absurd (cc)
-]
+ends-there t u i e = grind (arith, get_or_past t.ends u (Balancer 0))
 
 -- two wires of a table that end at one exit are one wire
 one-wire : (t : Table) → IsWellFormed t → (i u v : ℕ) → i < t.width → u < length t.ends → v < length t.ends → end_of t u ≡ Exit i
     → end_of t v ≡ Exit i → u ≡ v
-one-wire t w i u v h k l a b = elim (cases_eq u v) [
-  | inl e ↦ e
-  | inr d ↦
-      let here : is_end (Exit i) (end_of t u) ≡ true = rw a (eq-eqb i i refl) in
-      let there : is_end (Exit i) (end_of t v) ≡ true = rw b (eq-eqb i i refl) in
-      absurd (omega (arith, w.exits i h, total-where-parts (is_end (Exit i)) t.ends (Balancer 0) (λ _. 1) u v k l d here there))
-]
+one-wire t w i u v h k l a b =
+    let here : is_end (Exit i) (end_of t u) ≡ true = rw a (eq-eqb i i refl) in
+    let there : is_end (Exit i) (end_of t v) ≡ true = rw b (eq-eqb i i refl) in
+    grind (arith, w.exits i h, total-where-parts (is_end (Exit i)) t.ends (Balancer 0) (λ _. 1) u v k l)
 
 module _ {t s : Table} {made : Plan × List ℕ} (w : IsWellFormed t) (v : IsWellFormed s) (a : IsTableOf t made) (b : IsTableOf s made) where
   plans : plan_of_table t ≡ plan_of_table s

@@ -1,6 +1,5 @@
 -- Levels and widths.
-use Rattle.std.proofs.Common.{◌≡◌, ℕ, suc, ◌*◌, ◌^◌, ◌<◌, ◌≤◌, inl, inr, arith, lit≤}
-use Rattle.std.proofs.lemmas.Bool.{cases_order}
+use Rattle.std.proofs.Common.{◌≡◌, ℕ, suc, ◌*◌, ◌^◌, ◌<◌, ◌≤◌, arith, lit≤}
 use Rattle.std.proofs.lemmas.Nat.{pow_below}
 use Rattle.std.proofs.Math.Nat.{pow-succ'}
 use Rattle.std.proofs.Math.Pow.{pow_mono}
@@ -10,16 +9,9 @@ use Rattle.cn_tables.specs.Widths.{IsWidth}
 -- the level of a number that is a power of two, by the greatest power of two that is not above it
 pub level-is-log : (n log level : ℕ) → 2 ^ log ≤ n → n < 2 * 2 ^ log → n ≡ 2 ^ level → level ≡ log
 level-is-log n log level low high e =
-    elim (cases_order level log) [
-      | inl same ↦ same
-      | inr o ↦ elim o [
-        | inl l ↦ absurd (omega (arith, pow_below level log l))
-        | inr more ↦
-            let least : 2 ^ suc log ≤ 2 ^ level = pow_mono (omega arith) in
-            let twice : 2 ^ suc log ≡ 2 * 2 ^ log = pow-succ' 2 log in
-            absurd (omega arith)
-      ]
-    ]
+    let more : log < level → 2 ^ suc log ≤ 2 ^ level = λ l. pow_mono l in
+    let twice : 2 ^ suc log ≡ 2 * 2 ^ log = pow-succ' 2 log in
+    grind (arith, pow_below level log)
 
 -- a width is at least 2, and there may be as many ends
 pub width-some : (width : ℕ) → IsWidth width → 2 ≤ width

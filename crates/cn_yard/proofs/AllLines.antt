@@ -1,6 +1,6 @@
 -- Records that move from line to line.
-use Rattle.std.proofs.Common.{◌≡◌, ◌≢◌, ℕ, ◌+◌, ◌<◌, ◌≤◌, inl, inr, Bool, true, false, cond, eqb, ltb, List, [], ◌∷◌, ◌++◌, length, get_or, refl, ap, ◌∙◌, arith}
-use Rattle.cn_yard.proofs.Common.{Line, Record, but, cases_eq, cases_lt, count_of, marked, nat_tests, next_of, prev_of, times, wire_of}
+use Rattle.std.proofs.Common.{◌≡◌, ◌≢◌, ℕ, ◌+◌, ◌<◌, ◌≤◌, Bool, false, cond, eqb, ltb, List, [], ◌∷◌, ◌++◌, length, get_or, ap, ◌∙◌, arith}
+use Rattle.cn_yard.proofs.Common.{Line, Record, but, count_of, marked, nat_tests, next_of, prev_of, times, wire_of}
 use Rattle.std.proofs.lemmas.List.{append-nil, get_or_append_left, length-append, length_push}
 use Rattle.cn_spec.specs.Sums.{sum_below, when}
 use Rattle.cn_spec.proofs.CallerLemmas.{sum-below-part, sum-below-pick, sum-below-same, times-append}
@@ -25,10 +25,8 @@ sum-more n w f g each h =
 pub count-le : (records : List Record) (lines : List Line) (order : ℕ → List ℕ) → IsLinks records lines order → (u : ℕ)
     → u < length lines → count_of lines u ≤ length records
 count-le records lines order is u h =
-    let c = (is.linked.ends u h).count in
     let p = sum-below-part (length lines) u (λ v. length (order v)) h in
-    let a = is.all in
-    omega arith
+    omega (arith, (is.linked.ends u h).count, is.all)
 
 -- ---- all records but one are on their lines
 
@@ -49,18 +47,15 @@ but-one records lines records' lines' order t is h kept l =
     let w = wire_of records t in
     record {
       linked = l;
-      off = λ u k. let m = times-but t t (order u) in grind (arith, nat_tests);
+      off = λ u k. grind (arith, nat_tests, times-but t t (order u));
       within = λ n k o. rw (kept.wire n, kept.as_many) (is.within n (rw kept.len at k));
-      there = λ n k o. rw (kept.wire n) (let m = times-but n t (order (wire_of records n)) in let one = is.there n (rw kept.len at k) in
-          grind (arith, nat_tests));
+      there = λ n k o. rw (kept.wire n)
+          (grind (arith, nat_tests, times-but n t (order (wire_of records n)), is.there n (rw kept.len at k)));
       all =
           let more = sum-more (length lines) w (λ u. length (but t (order u))) (λ u. length (order u))
-          (λ u k. let c = length-but t (order u) in let one = is.linked.once t u k in let here = is.there t h in elim (cases_eq u w) [
-            | inl e ↦ let many : times t (order u) ≡ 1 = rw e here in grind (arith, nat_tests)
-            | inr o ↦ grind (arith, nat_tests)
-          ]) (is.within t h) in
-          let a = is.all in let len = kept.len in let as_many = kept.as_many in
-          rw as_many (omega arith);
+          (λ u k. grind (arith, nat_tests, length-but t (order u), is.linked.once t u k, is.there t h)) (is.within t h) in
+          let a = is.all in let len = kept.len in
+          rw kept.as_many (omega arith);
     }
 
 -- a record that is added is on no line
@@ -76,28 +71,20 @@ new-one records lines order x is =
             (λ z i. ap (λ (r : Record). r.next) (same z (l.below z u h i)))
             (λ z i. ap (λ (r : Record). r.prev) (same z (l.below z u h (in-tail z (order u) i))));
         ends = l.ends;
-        once = λ n u h. elim (cases_lt n (length records)) [
-          | inl k ↦ let w : wire_of (records ++ x ∷ []) n ≡ wire_of records n = ap (λ (r : Record). r.wire) (same n k) in
-              rw w (l.once n u h)
-          | inr k ↦ let none : times n (order u) ≡ 0 =
-              elim (cases_lt 0 (times n (order u))) [
-                | inl s ↦ absurd (let b = l.below n u h (omega arith) in omega arith)
-                | inr s ↦ omega arith
-              ] in omega (arith, none)
-        ];
+        once = λ n u h. grind (arith, nat_tests, l.once n u h, l.below n u h, wire n);
         below = λ n u h i. let b = l.below n u h i in omega arith;
       };
-      off = λ u h. elim (cases_lt 0 (times (length records) (order u)))
-          [ inl s ↦ absurd (let b = l.below (length records) u h (omega arith) in omega arith) | inr s ↦ omega arith ];
-      within = λ n k o. let i : n < length records = omega arith in
-          let w : wire_of (records ++ x ∷ []) n ≡ wire_of records n = ap (λ (r : Record). r.wire) (same n i) in rw w (is.within n i);
-      there = λ n k o. let i : n < length records = omega arith in
-          let w : wire_of (records ++ x ∷ []) n ≡ wire_of records n = ap (λ (r : Record). r.wire) (same n i) in rw w (is.there n i);
+      off = λ u h. grind (arith, l.below (length records) u h);
+      within = λ n k o. rw (wire n (omega arith)) (is.within n (omega arith));
+      there = λ n k o. rw (wire n (omega arith)) (is.there n (omega arith));
       all = let a = is.all in omega arith;
     }
   where
     same : (n : ℕ) → n < length records → get_or (records ++ x ∷ []) n no_record ≡ get_or records n no_record
     same n h = get_or_append_left records (x ∷ []) no_record n h
+
+    wire : (n : ℕ) → n < length records → wire_of (records ++ x ∷ []) n ≡ wire_of records n
+    wire n h = ap (λ (r : Record). r.wire) (same n h)
 
 -- and it is put last on one
 pub but-none : (records : List Record) (lines : List Line) (records' : List Record) (lines' : List Line) (order : ℕ → List ℕ) (t to : ℕ)
@@ -107,32 +94,16 @@ pub but-none : (records : List Record) (lines : List Line) (records' : List Reco
 but-none records lines records' lines' order t to is h kept l =
     record {
       linked = l;
-      within = λ n k. rw (kept.wire n, kept.as_many) (elim (cases_eq n t) [
-        | inl e ↦ let f : eqb n t ≡ true = grind (arith, nat_tests) in rw f h
-        | inr o ↦ let f : eqb n t ≡ false = grind (arith, nat_tests) in rw f (is.within n (rw kept.len at k) o)
-      ]);
-      there = λ n k. rw (kept.wire n) (elim (cases_eq n t) [
-        | inl e ↦ let f : eqb n t ≡ true = grind (arith, nat_tests) in rw f
-            (let a = times-append n (order to) (last_of t to to) in let b = times-last n t to to in
-            let z : times n (order to) ≡ 0 = rw e (is.off to h) in let s : eqb to to ≡ true = grind (arith, nat_tests) in
-            grind (arith, nat_tests))
-        | inr o ↦ let f : eqb n t ≡ false = grind (arith, nat_tests) in let w = wire_of records n in rw f
-            (let a = times-append n (order w) (last_of t to w) in let b = times-last n t to w in
-            let one = is.there n (rw kept.len at k) o in grind (arith, nat_tests))
-      ]);
+      within = λ n k. rw (kept.wire n, kept.as_many) (grind (arith, nat_tests, is.within n (rw kept.len at k)));
+      there = λ n k. rw (kept.wire n) (let w = cond (eqb n t) to (wire_of records n) in
+          let a = times-append n (order w) (last_of t to w) in
+          grind (arith, nat_tests, times-last n t to w, is.off to h, is.there n (rw kept.len at k)));
       all =
           let more = sum-more (length lines) to (λ u. length (order u)) (λ u. length (put_last order t to u))
-          (λ u k. let a = length-append (order u) (last_of t to u) in let b = length-last t to u in grind (arith, nat_tests)) h in
-          let a = is.all in let len = kept.len in let as_many = kept.as_many in
-          rw as_many (omega arith);
+          (λ u k. grind (arith, nat_tests, length-append (order u) (last_of t to u))) h in
+          let a = is.all in let len = kept.len in
+          rw kept.as_many (omega arith);
     }
-  where
-    length-last : (t to u : ℕ) → length (last_of t to u) ≡ cond (eqb to u) 1 0
-    length-last t to u = by (eqb to u)
-      where
-        by : (b : Bool) → length {A = ℕ} (cond b (t ∷ []) []) ≡ cond b 1 0
-        by true = refl
-        by false = refl
 
 -- ---- marks
 
@@ -142,10 +113,7 @@ pub marks-one : (lines lines' : List Line) (words words' : List ℕ) (t : ℕ) (
     → length lines' ≡ length lines → ((u : ℕ) → u ≢ t → count_of lines' u ≡ count_of lines u) → b ≡ ltb 0 (count_of lines' t)
     → HasMarks lines' words'
 marks-one lines lines' words words' t b has each as_many same e u h =
-    elim (cases_eq u t) [
-      | inl k ↦ let f : eqb u t ≡ true = grind (arith, nat_tests) in each u ∙ rw f (rw (e, k) refl)
-      | inr o ↦ let f : eqb u t ≡ false = grind (arith, nat_tests) in each u ∙ rw (f, same u o) (has u (rw as_many at h))
-    ]
+    grind (arith, nat_tests, each u, same u, has u (rw as_many at h))
 
 -- ---- a record is added, and put last on a line
 
@@ -173,14 +141,11 @@ added-kept records lines mid records' lines' x t to m kept = record {
 pub more-add : (a : List Record) (l : List Line) (b : List Record) (m : List Line) (c : List Record) (n : List Line) (to : ℕ)
     → IsMore a l b m to → IsAdded b m c n to → IsMore a l c n to
 more-add a l b m c n to is added =
-    let one = added.count to in
-    let count : count_of n to ≡ count_of m to + 1 = grind (arith, nat_tests) in
-    let len = is.len in let len' = added.len in let more = is.more in
-    record {
-      more = omega arith;
-      len = omega arith;
+    let count : count_of n to ≡ count_of m to + 1 = let one = added.count to in grind (arith, nat_tests) in record {
+      more = omega (arith, is.more, added.len);
+      len = omega (arith, is.len, added.len);
       as_many = added.as_many ∙ is.as_many;
-      client = λ k h. added.client k (omega arith) ∙ is.client k h;
+      client = λ k h. added.client k (omega (arith, is.more)) ∙ is.client k h;
     }
 
 -- a number that comes to a line changes no other

@@ -43,11 +43,7 @@ chain-on n p n' p' line t (x ∷ xs) e c none once links =
 
 -- how often a number stands in what is added at the end
 pub times-last : (z t to u : ℕ) → times z (last_of t to u) ≡ cond (eqb to u) (cond (eqb z t) 1 0) 0
-times-last z t to u = by (eqb to u)
-  where
-    by : (b : Bool) → times z (cond b (t ∷ []) []) ≡ cond b (cond (eqb z t) 1 0) 0
-    by true = let a = times-cons z t [] in let n = times-nil z in grind (arith, nat_tests)
-    by false = times-nil z
+times-last z t to u = grind (arith, nat_tests, times-cons z t [], times-nil z)
 
 -- what is needed of the code
 pub record Appends (records : List Record) (lines : List Line) (mid : List Record) (records' : List Record) (lines' : List Line) (t to : ℕ)
@@ -68,22 +64,16 @@ on-kept records lines mid records' lines' t to h ap' =
     let new = line_with (line_of lines to) t in
     let which = cases-zero (count_of lines to) in
     let put = ap'.records_are in
+    let same = ap (λ (x : Line). x.count) (get_or-set_same lines to new no_line h) in
     record {
       len = put.len ∙ elim which [ inl e ↦ ap length (ap'.first e) | inr e ↦ (ap'.later e).len ];
       as_many = rw ap'.lines_are (length-set lines to new);
       wire = λ z. put.wire z ∙ ap (λ (w : ℕ). cond (eqb z t) to w)
           (elim which [ inl e ↦ ap (λ r. wire_of r z) (ap'.first e) | inr e ↦ (ap'.later e).wire z ]);
       client = λ z. put.client z ∙ elim which [ inl e ↦ rw (ap'.first e) refl | inr e ↦ (ap'.later e).client z ];
-      count = λ u. elim (cases_eq to u) [
-        | inl e ↦ let f : eqb to u ≡ true = grind (arith, nat_tests) in
-            let c : count_of (set lines to new) to ≡ count_of lines to + 1 =
-            ap (λ (x : Line). x.count) (get_or-set_same lines to new no_line h) in
-            rw (f, ap'.lines_are) (subst (λ (v : ℕ). count_of (set lines to new) v ≡ count_of lines v + 1) e (omega (arith, c)))
-        | inr o ↦ let f : eqb to u ≡ false = grind (arith, nat_tests) in
-            let c : count_of (set lines to new) u ≡ count_of lines u =
-            ap (λ (x : Line). x.count) (get_or-set_other lines to u new no_line (λ k. o (sym k))) in
-            rw (f, ap'.lines_are) (omega (arith, c))
-      ];
+      count = λ u. let other : u ≢ to → count_of (set lines to new) u ≡ count_of lines u =
+          λ o. ap (λ (x : Line). x.count) (get_or-set_other lines to u new no_line o) in
+          rw ap'.lines_are (grind (arith, nat_tests));
     }
 
 -- and the lines run through the lists with the number at the end of one
@@ -139,16 +129,10 @@ on-linked records lines mid records' lines' order t to l off ht h ap' kept =
           let none = off u hu in
           let many = times-append z (order u) (last_of t to u) in
           let more = times-last z t to u in
-          rw (kept.wire z) (elim (cases_eq z t) [
-            | inl e ↦ let out : times z (order u) ≡ 0 = rw e none in grind (arith, nat_tests)
-            | inr o ↦ grind (arith, nat_tests)
-          ]);
+          rw (kept.wire z) (grind (arith, nat_tests));
       below = λ z u within some.
           let hu : u < length lines = rw kept.as_many at within in
           let many = times-append z (order u) (last_of t to u) in
           let more = times-last z t to u in
-          rw kept.len (elim (cases_eq z t) [
-            | inl e ↦ rw e ht
-            | inr o ↦ l.below z u hu (grind (arith, nat_tests))
-          ]);
+          rw kept.len (grind (arith, nat_tests, l.below z u hu));
     }

@@ -12,6 +12,7 @@ use Rattle.cn_yard.specs.Moving.{Fills, IsLined, IsMore, IsMove, SameBut}
 use Rattle.cn_yard.proofs.Changes.{admits-of, links-client, lists-same, moves-of, releases-of}
 use Rattle.cn_yard.proofs.Appended.{last-below, last-there}
 use Rattle.cn_yard.proofs.Wires.{live, standing-live, tokens-are}
+use Rattle.cn_yard.proofs.There.{second}
 
 -- ---- a record is moved
 
@@ -35,9 +36,6 @@ moves-relinked y z order t to from client k re h stands =
     let who : client ≡ client_of y.records.items t = second (sym stands ∙ standing-live y order k t within on_wire) in
     let count = re.move.count y.wires in
     rw who (moves-of y z order t to k (keeps-relinked y z order t to k re) re.wires re.move.client h re.move.len (grind (arith, nat_tests)))
-  where
-    second : {a b : ℕ × ℕ} → Some a ≡ Some b → a.1 ≡ b.1
-    second h = cc
 
 pub releases-relinked : (y z : Inside) (order : ℕ → List ℕ) (t : ℕ) → Keeps y order → Relinked y z t y.wires
     → IsSome (standing (lists_of y) t) → Releases (yard_of y) (yard_of z) t

@@ -47,14 +47,7 @@ pub last-but : (t d : ℕ) (xs : List ℕ) → last_or d xs ≢ t → last_or d 
 unfolding last_or
 last-but t d [] n = refl
 last-but t d (x ∷ []) n = rw (but-cons t x [] n) refl
-last-but t d (x ∷ y ∷ ys) n =
-    elim (cases_eq x t) [
-      | inl e ↦ rw (skip e) (last-but t d (y ∷ ys) n)
-      | inr o ↦ rw (but-cons t x (y ∷ ys) o) (last-but t x (y ∷ ys) n)
-    ]
-  where
-    skip : x ≡ t → but t (x ∷ y ∷ ys) ≡ but t (y ∷ ys)
-    skip e = grind (arith, nat_tests)
+last-but t d (x ∷ y ∷ ys) n = grind (arith, nat_tests, last-but t d (y ∷ ys), last-but t x (y ∷ ys))
 
 -- ---- chains
 
@@ -82,78 +75,69 @@ module _ (n p : ℕ → ℕ) where
   -- the number before one that is not the first
   pub prev-in : (t y : ℕ) (ys : List ℕ) → Chain n p (y ∷ ys) → 1 ≤ times t ys → 1 ≤ times (p t) (y ∷ ys)
   prev-in t y [] c h = absurd (omega (arith, times-nil t))
-  prev-in t y (z ∷ zs) c h =
-      elim (cases_eq z t) [
-        | inl e ↦ let tied = (chain-tied y z zs c).1 in let before : p t ≡ y = ap p (sym e) ∙ tied in
-            rw before (grind (arith, nat_tests, times-cons y y (z ∷ zs)))
-        | inr o ↦ let more = times-cons t z zs in
-            let rest = prev-in t z zs (chain-rest y (z ∷ zs) c) (grind (arith, nat_tests)) in
-            omega (arith, rest, times-cons (p t) y (z ∷ zs))
-      ]
+  prev-in t y (z ∷ zs) c h = grind (
+    arith,
+    nat_tests,
+    (chain-tied y z zs c).1,
+    times-cons t z zs,
+    times-cons y y (z ∷ zs),
+    times-cons (p t) y (z ∷ zs),
+    prev-in t z zs (chain-rest y (z ∷ zs) c),
+  )
 
   -- the number after one that is not the last
   pub next-in : (t d : ℕ) (ys : List ℕ) → Chain n p ys → 1 ≤ times t ys → last_or d ys ≢ t → 1 ≤ times (n t) ys
   unfolding last_or
   next-in t d [] c h o = absurd (omega (arith, times-nil t))
   next-in t d (z ∷ []) c h o = absurd (let more = times-cons t z [] in let none = times-nil t in grind (arith, nat_tests))
-  next-in t d (z ∷ w ∷ ws) c h o =
-      elim (cases_eq z t) [
-        | inl e ↦ let tied = (chain-tied z w ws c).0 in let after : n t ≡ w = ap n (sym e) ∙ tied in
-            rw after (let a = times-cons w z (w ∷ ws) in let b = times-cons w w ws in grind (arith, nat_tests))
-        | inr d' ↦ let more = times-cons t z (w ∷ ws) in
-            let rest = next-in t z (w ∷ ws) (chain-rest z (w ∷ ws) c) (grind (arith, nat_tests)) o in
-            omega (arith, rest, times-cons (n t) z (w ∷ ws))
-      ]
+  next-in t d (z ∷ w ∷ ws) c h o = grind (
+    arith,
+    nat_tests,
+    (chain-tied z w ws c).0,
+    times-cons t z (w ∷ ws),
+    times-cons w w ws,
+    times-cons (n t) z (w ∷ ws),
+    next-in t z (w ∷ ws) (chain-rest z (w ∷ ws) c),
+  )
 
   -- a walk from the first meets them all
   pub walk-chain : (d : ℕ) (xs : List ℕ) → Chain n p xs → walk n (length xs) (head_or d xs) ≡ xs
   unfolding walk
-  walk-chain d [] c = refl
-  walk-chain d (x ∷ []) c = refl
   walk-chain d (x ∷ y ∷ ys) c =
       let tied = (chain-tied x y ys c).0 in
       let rest = walk-chain d (y ∷ ys) (chain-rest x (y ∷ ys) c) in
       rw tied (ap (λ zs. x ∷ zs) rest)
+  walk-chain d _ c = refl
 
   -- without the last
   pub chain-but-last : (t d : ℕ) (xs : List ℕ) → Chain n p xs → last_or d xs ≡ t → times t xs ≤ 1 → Chain n p (but t xs)
   unfolding last_or
   chain-but-last t d [] c e one = c
-  chain-but-last t d (x ∷ []) c e one = rw (but-out-one e) chain-nil
-    where
-      but-out-one : x ≡ t → but t (x ∷ []) ≡ []
-      but-out-one e = grind (arith, nat_tests)
+  chain-but-last t d (x ∷ []) c e one = let out : but t (x ∷ []) ≡ [] = grind (arith, nat_tests) in rw out chain-nil
   chain-but-last t d (x ∷ y ∷ []) c e one =
       let a = times-cons t x (y ∷ []) in let b = times-cons t y [] in
-      let o : x ≢ t = λ h. absurd (grind (arith, nat_tests)) in
-      rw (but-two o e) (chain-one x)
-    where
-      but-two : x ≢ t → y ≡ t → but t (x ∷ y ∷ []) ≡ x ∷ []
-      but-two o e = grind (arith, nat_tests)
+      let left : but t (x ∷ y ∷ []) ≡ x ∷ [] = grind (arith, nat_tests) in rw left (chain-one x)
   chain-but-last t d (x ∷ y ∷ z ∷ zs) c e one =
       let here = subst (λ (k : ℕ). 1 ≤ times k (z ∷ zs)) e (last-in z zs) in
       let a = times-cons t x (y ∷ z ∷ zs) in let b = times-cons t y (z ∷ zs) in
-      let o : x ≢ t = λ h. absurd (grind (arith, nat_tests)) in
-      let o' : y ≢ t = λ h. absurd (grind (arith, nat_tests)) in
+      let left : but t (x ∷ y ∷ z ∷ zs) ≡ x ∷ but t (y ∷ z ∷ zs) = grind (arith, nat_tests) in
+      let left' : but t (y ∷ z ∷ zs) ≡ y ∷ but t (z ∷ zs) = grind (arith, nat_tests) in
       let rest = chain-but-last t x (y ∷ z ∷ zs) (chain-rest x (y ∷ z ∷ zs) c) e (omega arith) in
       let tied = chain-tied x y (z ∷ zs) c in
-      rw (but-cons t x (y ∷ z ∷ zs) o, but-cons t y (z ∷ zs) o')
-      (chain-cons x y (but t (z ∷ zs)) tied.0 tied.1 (rw (but-cons t y (z ∷ zs) o') at rest))
+      rw (left, left') (chain-cons x y (but t (z ∷ zs)) tied.0 tied.1 (rw left' at rest))
 
   -- the last that is left
   pub last-left : (t y : ℕ) (ys : List ℕ) → Chain n p (y ∷ ys) → 1 ≤ length ys → last_or y ys ≡ t → times t ys ≤ 1
       → last_or y (but t ys) ≡ p t
   unfolding last_or
   last-left t y [] c h e one = absurd (omega arith)
-  last-left t y (z ∷ []) c h e one = rw (gone e) (sym (chain-tied y z [] c).1 ∙ ap p e)
-    where
-      gone : z ≡ t → but t (z ∷ []) ≡ []
-      gone e = grind (arith, nat_tests)
+  last-left t y (z ∷ []) c h e one = let gone : but t (z ∷ []) ≡ [] = grind (arith, nat_tests) in
+      rw gone (sym (chain-tied y z [] c).1 ∙ ap p e)
   last-left t y (z ∷ w ∷ ws) c h e one =
       let here = subst (λ (k : ℕ). 1 ≤ times k (w ∷ ws)) e (last-in w ws) in
       let a = times-cons t z (w ∷ ws) in
-      let o : z ≢ t = λ h. absurd (grind (arith, nat_tests)) in
-      rw (but-cons t z (w ∷ ws) o) (last-left t z (w ∷ ws) (chain-rest y (z ∷ w ∷ ws) c) (omega arith) e (omega arith))
+      let left : but t (z ∷ w ∷ ws) ≡ z ∷ but t (w ∷ ws) = grind (arith, nat_tests) in
+      rw left (last-left t z (w ∷ ws) (chain-rest y (z ∷ w ∷ ws) c) (omega arith) e (omega arith))
 
 -- links that agree on a list
 pub chain-same : (n p n' p' : ℕ → ℕ) (xs : List ℕ) → Chain n p xs → ((x : ℕ) → 1 ≤ times x xs → n' x ≡ n x)
@@ -181,12 +165,14 @@ chain-but n p n' p' t x (y ∷ w ∷ ws) c h o one a b =
       | inl e ↦
           let back : p t ≡ x = ap p (sym e) ∙ (chain-tied n p x y (w ∷ ws) c).1 in
           let forth : n t ≡ w = ap n (sym e) ∙ (chain-tied n p y w ws (chain-rest n p x (y ∷ w ∷ ws) c)).0 in
-          rw (gone e (one t)) (chain-cons n' p' x w ws (let k = a x in grind (arith, nat_tests)) (let k = b w in grind (arith, nat_tests))
+          let all : (z : ℕ) → times z (x ∷ y ∷ w ∷ ws) ≡ cond (eqb x z) 1 0 + (cond (eqb y z) 1 0 + times z (w ∷ ws)) =
+          λ z. omega (arith, times-cons z x (y ∷ w ∷ ws), times-cons z y (w ∷ ws)) in
+          let left : but t (y ∷ w ∷ ws) ≡ w ∷ ws = let k = all t in let m = one t in let out = but-out t (w ∷ ws) in
+          grind (arith, nat_tests) in
+          rw left (chain-cons n' p' x w ws (let k = a x in grind (arith, nat_tests)) (let k = b w in grind (arith, nat_tests))
           (chain-same n p n' p' (w ∷ ws) (chain-rest n p y (w ∷ ws) (chain-rest n p x (y ∷ w ∷ ws) c))
-          (λ z l. let k = a z in let m = one z in let s = times-cons z x (y ∷ w ∷ ws) in let r = times-cons z y (w ∷ ws) in
-          grind (arith, nat_tests))
-          (λ z l. let k = b z in let m = one z in let s = times-cons z x (y ∷ w ∷ ws) in let r = times-cons z y (w ∷ ws) in
-          let q = times-cons z w ws in grind (arith, nat_tests))))
+          (λ z l. grind (arith, nat_tests, a z, one z, all z))
+          (λ z l. grind (arith, nat_tests, b z, one z, all z, times-cons z w ws))))
       | inr d ↦
           let more = times-cons t y (w ∷ ws) in
           let tied = chain-tied n p x y (w ∷ ws) c in
@@ -195,15 +181,10 @@ chain-but n p n' p' t x (y ∷ w ∷ ws) c h o one a b =
           let back = prev-in n p t y (w ∷ ws) c' there in
           let forth = next-in n p t y (w ∷ ws) (chain-rest n p y (w ∷ ws) c') there o in
           rw (but-cons t y (w ∷ ws) d) (chain-cons n' p' x y (but t (w ∷ ws))
-          (let k = a x in let m = one x in let s = times-cons x x (y ∷ w ∷ ws) in grind (arith, nat_tests))
-          (let k = b y in let m = one y in let s = times-cons y x (y ∷ w ∷ ws) in let r = times-cons y y (w ∷ ws) in
-          grind (arith, nat_tests))
+          (grind (arith, nat_tests, a x, one x, times-cons x x (y ∷ w ∷ ws)))
+          (grind (arith, nat_tests, b y, one y, times-cons y x (y ∷ w ∷ ws), times-cons y y (w ∷ ws)))
           (chain-but n p n' p' t y (w ∷ ws) c' there o (λ z. let m = one z in omega (arith, times-cons z x (y ∷ w ∷ ws))) a b))
     ]
-  where
-    gone : y ≡ t → times t (x ∷ y ∷ w ∷ ws) ≤ 1 → but t (y ∷ w ∷ ws) ≡ w ∷ ws
-    gone e m = let s = times-cons t x (y ∷ w ∷ ws) in
-        rw e (but-head t (w ∷ ws) (rw e at (let k : times t (y ∷ w ∷ ws) ≤ 1 = omega arith in k)))
 
 -- one more comes last
 pub chain-push : (n p n' p' : ℕ → ℕ) (t x : ℕ) (xs : List ℕ) → Chain n p (x ∷ xs) → times t (x ∷ xs) ≡ 0

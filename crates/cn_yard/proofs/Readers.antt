@@ -11,6 +11,7 @@ use Rattle.cn_yard.specs.Records.{no_record}
 use Rattle.cn_yard.specs.InsideYard.{IsYard, with_clients}
 use Rattle.cn_yard.proofs.Bare.{bare-count, bare-on, bare-records, bare-tokens, on-beyond, opened}
 use Rattle.cn_yard.proofs.Wires.{after-clients, length-on, live, on-wire, standing-live, there-live, tokens-are}
+use Rattle.cn_yard.proofs.There.{first}
 
 module _ (y : Inside) (order : ℕ → List ℕ) (k : Keeps y order) where
   -- a line as the code reads it
@@ -84,7 +85,7 @@ module _ (y : Inside) (order : ℕ → List ℕ) (k : Keeps y order) where
       let e = record-read t r h at in
       let w = wire_of y.records.items t in
       let within : r.wire < y.wires = wire-read t r stands at in
-      let same : wire ≡ r.wire = first-of-pair (sym is ∙ stands-read t r stands at) in
+      let same : wire ≡ r.wire = first (sym is ∙ stands-read t r stands at) in
       let same' : r.wire ≡ w = ap (λ (s : Record). s.wire) e in
       let l = line-read r.wire line (omega arith) line_at in
       let ends = k.lined.links.linked.ends r.wire (omega arith) in
@@ -95,9 +96,6 @@ module _ (y : Inside) (order : ℕ → List ℕ) (k : Keeps y order) where
       (k.lined.links.linked.chain r.wire (omega arith)) one in
       let next : next_of y.records.items t ≡ r.next = ap (λ (s : Record). s.next) (sym e) in
       rw (same, on-wire y order k r.wire within) (all ∙ rw (last, next) refl)
-    where
-      first-of-pair : {a b : ℕ × ℕ} → Some a ≡ Some b → a.0 ≡ b.0
-      first-of-pair h = cc
 
   -- ---- the lowest wire
 

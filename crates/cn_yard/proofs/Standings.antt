@@ -60,8 +60,5 @@ standing-added old new token client wire wires within own others other =
         → standing_below n new token ≡ Some (wire, client)
     by zero h own = absurd (omega arith)
     by (suc n) h own =
-        elim (cases_eq n wire) [
-          | inl e ↦ let here : eqb wire n ≡ true = grind (arith, nat_tests) in rw (own n (omega arith), here, e) refl
-          | inr d ↦ let away : eqb wire n ≡ false = grind (arith, nat_tests) in
-              rw (own n (omega arith), away) (by n (omega arith) (λ u l. own u (omega arith)))
-        ]
+        let rest : wire < n → standing_below n new token ≡ Some (wire, client) = λ l. by n l (λ u k. own u (omega arith)) in
+        grind (arith, nat_tests, own n)

@@ -1,6 +1,6 @@
 -- The first token of a wire, taken off it.
 use Rattle.std.proofs.Common.{◌≡◌, ◌≢◌, ℕ, ◌+◌, ◌<◌, ◌≤◌, inl, inr, eqb, cond, Bool, true, false, List, [], ◌∷◌, ◌++◌, length, refl, sym, ap, ◌∙◌, arith, Option, Some, None}
-use Rattle.cn_yard.proofs.Common.{Lists, Yard, cases_lt, count_by, last_on, lookup, on, times_in, without}
+use Rattle.cn_yard.proofs.Common.{Lists, Yard, cases_lt, count_by, last_on, lookup, nat_tests, on, times_in, without}
 use Rattle.std.specs.Prelude.{nat_eq, sum_by}
 use Rattle.std.proofs.lemmas.Bool.{eq-eqb}
 use Rattle.std.proofs.lemmas.List.{get_or_past}
@@ -19,25 +19,13 @@ times_on token es = count_by (λ e. nat_eq token e.0) es
 -- where it does not stand, nothing is taken
 pub without-same : (token : ℕ) (es : List (ℕ × ℕ)) → times_on token es ≡ 0 → without token es ≡ es
 without-same token [] none = refl
-without-same token (e ∷ es) none = by (nat_eq token e.0) refl (without-same token es)
-  where
-    size : times_on token (e ∷ es) ≡ cond (nat_eq token e.0) 1 0 + times_on token es
-    size = sum_by-cons (λ (x : ℕ × ℕ). cond (nat_eq token x.0) 1 0) e es
-
-    by : (b : Bool) → nat_eq token e.0 ≡ b → (times_on token es ≡ 0 → without token es ≡ es) → without token (e ∷ es) ≡ e ∷ es
-    by true is rest =
-        let one : ◌≡◌ {A = ℕ} (cond (nat_eq token e.0) 1 0) 1 = ap {B = ℕ} (λ b. cond b 1 0) is in
-        absurd (omega (arith, none, size, one))
-    by false is rest =
-        let zero_here : ◌≡◌ {A = ℕ} (cond (nat_eq token e.0) 1 0) 0 = ap {B = ℕ} (λ b. cond b 1 0) is in
-        rw is (ap (λ (l : List (ℕ × ℕ)). e ∷ l) (rest (omega (arith, none, size, zero_here))))
+without-same token (e ∷ es) none =
+    grind (arith, nat_tests, without-same token es, sum_by-cons (λ (x : ℕ × ℕ). cond (nat_eq token x.0) 1 0) e es)
 
 nowhere : (token : ℕ) (es : List (ℕ × ℕ)) → times_on token es ≡ 0 → lookup (nat_eq token) es ≡ None
-nowhere token es none = by (lookup (nat_eq token) es) refl
-  where
-    by : (found : Option ℕ) → lookup (nat_eq token) es ≡ found → lookup (nat_eq token) es ≡ None
-    by None is = is
-    by (Some c) is = absurd (omega (arith, none, found-once token c es is))
+nowhere token [] none = refl
+nowhere token (e ∷ es) none =
+    grind (arith, nat_tests, nowhere token es, sum_by-cons (λ (x : ℕ × ℕ). cond (nat_eq token x.0) 1 0) e es)
 
 module _ (y : Lists) (token client wire : ℕ) (rest : List (ℕ × ℕ)) (once : (k : ℕ) → times_in y k ≤ 1) (inside : wire < length y)
     (begins : on y wire ≡ (token, client) ∷ rest) where
@@ -46,9 +34,8 @@ module _ (y : Lists) (token client wire : ℕ) (rest : List (ℕ × ℕ)) (once 
 
   here : times wire ≡ 1 + times_on token rest
   here =
-      let one : ◌≡◌ {A = ℕ} (cond (nat_eq token token) 1 0) 1 = ap {B = ℕ} (λ b. cond b 1 0) (eq-eqb token token refl) in
-      ap (times_on token) begins ∙ sum_by-cons (λ (x : ℕ × ℕ). cond (nat_eq token x.0) 1 0) (token, client) rest
-      ∙ ap (λ (n : ℕ). n + times_on token rest) one
+      ap (times_on token) begins
+      ∙ grind (arith, nat_tests, sum_by-cons (λ (x : ℕ × ℕ). cond (nat_eq token x.0) 1 0) (token, client) rest)
 
   none_after : times_on token rest ≡ 0
   none_after = omega (arith, once token, here, sum-below-part (length y) wire times inside)
@@ -68,9 +55,7 @@ module _ (y : Lists) (token client wire : ℕ) (rest : List (ℕ × ℕ)) (once 
 
   -- the tokens after it are left on its wire, and all on other wires
   pub rest-on : without token (on y wire) ≡ rest
-  rest-on =
-      let taken : without token ((token, client) ∷ rest) ≡ without token rest = rw (eq-eqb token token refl) refl in
-      ap (without token) begins ∙ taken ∙ without-same token rest none_after
+  rest-on = ap (without token) begins ∙ rw (eq-eqb token token refl) (without-same token rest none_after)
 
   pub others-on : (u : ℕ) → u ≢ wire → without token (on y u) ≡ on y u
   others-on u other = without-same token (on y u) (none-elsewhere u other)

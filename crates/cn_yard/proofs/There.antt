@@ -1,16 +1,17 @@
 -- Where a token stands: on only one wire, once.
 use Rattle.std.proofs.Common.{◌≡◌, ◌≢◌, ℕ, zero, suc, ◌<◌, ◌≤◌, inl, inr, eqb, List, [], length, refl, sym, ap, ◌∙◌, arith, Option, Some, None}
-use Rattle.cn_yard.proofs.Common.{Lists, cases_eq, cases_lt, count_by, lookup, on, standing, times_in, tokens_in}
+use Rattle.cn_yard.proofs.Common.{Lists, cases_eq, cases_lt, count_by, lookup, nat_tests, on, standing, times_in, tokens_in, without}
 use Rattle.std.proofs.lemmas.Bool.{ne_eqb, eq-eqb}
+use Rattle.std.specs.List.{sum_by}
 use Rattle.std.proofs.lemmas.List.{get_or_past}
 use Rattle.cn_spec.proofs.CallerLemmas.{sum-below-part, sum-below-parts}
 use Rattle.cn_yard.specs.Lists.{IsThere, here_or, standing_below}
 use Rattle.cn_yard.proofs.Keyed.{found-once, without-none, without-one}
 
-first : {a b : ℕ × ℕ} → Some a ≡ Some b → a.0 ≡ b.0
+pub first : {a b : ℕ × ℕ} → Some a ≡ Some b → a.0 ≡ b.0
 first h = cc
 
-second : {a b : ℕ × ℕ} → Some a ≡ Some b → a.1 ≡ b.1
+pub second : {a b : ℕ × ℕ} → Some a ≡ Some b → a.1 ≡ b.1
 second h = cc
 
 -- where a token stands, as a search finds it
@@ -41,12 +42,9 @@ there y token client wire once stands =
     record {
       found = stands;
       inside = inside;
-      less = λ u f. elim (cases_eq wire u) [
-        | inl e ↦
-            let at = without-one token client (on y wire) f (omega arith) found in
-            rw (eq-eqb wire u e) (rw e at at)
-        | inr d ↦ rw (ne_eqb wire u d) (omega (arith, without-none token (on y u) f (none u d)))
-      ];
+      less = λ u f.
+          let out : wire ≢ u → sum_by f (without token (on y u)) ≡ sum_by f (on y u) = λ d. without-none token (on y u) f (none u d) in
+          grind (arith, nat_tests, without-one token client (on y wire) f (omega arith) found);
     }
   where
     none : (u : ℕ) → wire ≢ u → count_by (λ e. eqb token e.0) (on y u) ≡ 0

@@ -1,7 +1,7 @@
 -- The tokens of a wire, dealt to two others one after the other.
-use Rattle.std.proofs.Common.{◌≡◌, ◌≢◌, ℕ, zero, suc, ◌+◌, ◌-◌, ◌%◌, ◌<◌, ◌≤◌, inl, inr, cond, Bool, true, false, List, [], ◌∷◌, ◌++◌, length, refl, sym, ap, ◌∙◌, subst, arith, Some, append-nil}
+use Rattle.std.proofs.Common.{◌≡◌, ◌≢◌, ℕ, zero, suc, ◌+◌, ◌-◌, ◌%◌, ◌<◌, ◌≤◌, cond, Bool, true, false, List, [], ◌∷◌, ◌++◌, length, refl, sym, ap, ◌∙◌, subst, arith, Some, add-zero, append-nil}
 use Rattle.std.specs.Prelude.{◌==◌}
-use Rattle.cn_yard.proofs.Common.{Yard, cases_eq, last_on, on, standing, times_in, tokens_in, without}
+use Rattle.cn_yard.proofs.Common.{Yard, last_on, nat_tests, on, standing, times_in, tokens_in}
 use Rattle.std.proofs.lemmas.Bool.{eq-eqb, ne_eqb}
 use Rattle.std.proofs.lemmas.List.{append_assoc, length_push}
 use Rattle.cn_yard.specs.Deals.{Deals, IsDealt, every_second, out_of}
@@ -16,19 +16,10 @@ deals-next : (outs : ℕ → ℕ) (output : ℕ) (done : List (ℕ × ℕ)) (old
     → Moves between new token client (outs ((output + length done) % 2)) → Deals outs output (done ++ (token, client) ∷ []) old new
 unfolding Deals
 deals-next outs output [] old between new token client same moves =
-    (new, subst (λ (y : Yard). Moves y new token client (outs (output % 2))) same (rw (zero-more output) at moves), refl)
-  where
-    zero-more : (n : ℕ) → n + 0 ≡ n
-    zero-more n = omega arith
-deals-next outs output (e ∷ done) old between new token client (first, one, rest) moves = (
-  first,
-  one,
-  deals-next outs (output + 1) done first between new token client rest
-      (subst (λ (n : ℕ). Moves between new token client (outs (n % 2))) (one-more (length done) (length (e ∷ done)) refl) moves),
-)
-  where
-    one-more : (n k : ℕ) → k ≡ suc n → output + k ≡ output + 1 + n
-    one-more n k is = omega (arith, is)
+    (new, subst (λ (y : Yard). Moves y new token client (outs (output % 2))) same (rw add-zero at moves), refl)
+deals-next outs output (e ∷ done) old between new token client (first, one, rest) moves =
+    let next : output + length (e ∷ done) ≡ output + 1 + length done = omega arith in
+    (first, one, deals-next outs (output + 1) done first between new token client rest (rw next at moves))
 
 -- so far: the first tokens of the wire were moved, and the rest stands there
 pub record IsDealing (outs : ℕ → ℕ) (output wire : ℕ) (old now : Yard) (turn : ℕ) : Type 0 where
@@ -64,35 +55,31 @@ module _ (outs : ℕ → ℕ) (output wire : ℕ) (old y : Yard) (turn token : �
   pub next-stands : standing y.lists token ≡ Some (wire, next.client)
   next-stands = (first-there y.lists token next.client wire next.after is.once within next.begins).found
 
-  -- once it is moved
+  -- once it is moved, the rest stands there
+  rest-stays : (z : Yard) (to : ℕ) → wire ≢ to → Moves y z token next.client to → on z.lists wire ≡ next.after
+  rest-stays z to differ moves =
+      let left = rest-on y.lists token next.client wire next.after is.once within next.begins in
+      let none : last_on token next.client to wire ≡ [] = grind (arith, nat_tests) in
+      moves.lists wire ∙ rw (left, none) (append-nil next.after)
+
   pub goes-on : (z : Yard) (to : ℕ) → to ≡ outs turn → to < length old.lists → wire ≢ to → Moves y z token next.client to
       → IsDealing outs output wire old z (1 - turn)
-  goes-on z to at lands differ moves =
-      let left : without token (on y.lists wire) ≡ next.after =
-      rest-on y.lists token next.client wire next.after is.once within next.begins in
-      let none : last_on token next.client to wire ≡ [] = rw (ne_eqb to wire (λ e. differ (sym e))) refl in
-      record {
-        done = is.done ++ (token, next.client) ∷ [];
-        rest = next.after;
-        whole = is.whole ∙ ap (λ (es : List (ℕ × ℕ)). is.done ++ es) (sym is.left ∙ next.begins)
-            ∙ sym (append_assoc is.done ((token, next.client) ∷ []) next.after);
-        left = moves.lists wire ∙ (λ i. left i ++ none i) ∙ append-nil next.after;
-        dealt = deals-next outs output is.done old y z token next.client is.dealt
-            (subst (λ (u : ℕ). Moves y z token next.client u) (at ∙ ap outs is.output_is) moves);
-        output_is = omega (arith, is.output_is, length_push is.done (token, next.client));
-        once = λ k. once-moved y.lists token next.client wire next.after is.once within next.begins z.lists moves.wires k to
-            (omega (arith, lands, is.wires)) moves.lists;
-        wires = moves.wires ∙ is.wires;
-      }
+  goes-on z to at lands differ moves = record {
+    done = is.done ++ (token, next.client) ∷ [];
+    rest = next.after;
+    whole = is.whole ∙ ap (λ (es : List (ℕ × ℕ)). is.done ++ es) (sym is.left ∙ next.begins)
+        ∙ sym (append_assoc is.done ((token, next.client) ∷ []) next.after);
+    left = rest-stays z to differ moves;
+    dealt = deals-next outs output is.done old y z token next.client is.dealt (rw (at ∙ ap outs is.output_is) at moves);
+    output_is = omega (arith, is.output_is, length_push is.done (token, next.client));
+    once = λ k. once-moved y.lists token next.client wire next.after is.once within next.begins z.lists moves.wires k to
+        (omega (arith, lands, is.wires)) moves.lists;
+    wires = moves.wires ∙ is.wires;
+  }
 
   -- one is left less
   pub fewer : (z : Yard) (to : ℕ) → wire ≢ to → Moves y z token next.client to → length (on z.lists wire) < length (on y.lists wire)
-  fewer z to differ moves =
-      let left : without token (on y.lists wire) ≡ next.after =
-      rest-on y.lists token next.client wire next.after is.once within next.begins in
-      let none : last_on token next.client to wire ≡ [] = rw (ne_eqb to wire (λ e. differ (sym e))) refl in
-      let now : on z.lists wire ≡ next.after = moves.lists wire ∙ (λ i. left i ++ none i) ∙ append-nil next.after in
-      omega (arith, ap length now, ap length next.begins)
+  fewer z to differ moves = omega (arith, ap length (rest-stays z to differ moves), ap length next.begins)
 
 -- in the end all were moved
 pub ends : (outs : ℕ → ℕ) (output wire : ℕ) (old now : Yard) (turn : ℕ) → IsDealing outs output wire old now turn → on now.lists wire ≡ []
@@ -117,71 +104,24 @@ module _ (out0 out1 : ℕ) (differ : out0 ≢ out1) where
   abbrev comes : ℕ → List (ℕ × ℕ) → ℕ → List (ℕ × ℕ)
   comes p es u = cond (u == out0) (every_second p es) (cond (u == out1) (every_second (1 - p) es) [])
 
-  at-first : (p : ℕ) (es : List (ℕ × ℕ)) → comes p es out0 ≡ every_second p es
-  at-first p es = rw (eq-eqb out0 out0 refl) refl
-
-  at-second : (p : ℕ) (es : List (ℕ × ℕ)) → comes p es out1 ≡ every_second (1 - p) es
-  at-second p es = rw (ne_eqb out1 out0 (λ e. differ (sym e)), eq-eqb out1 out1 refl) refl
-
-  at-other : (p : ℕ) (es : List (ℕ × ℕ)) (u : ℕ) → u ≢ out0 → u ≢ out1 → comes p es u ≡ []
-  at-other p es u first second = rw (ne_eqb u out0 first, ne_eqb u out1 second) refl
-
   nothing-comes : (p u : ℕ) → comes p [] u ≡ []
   unfolding every_second
-  nothing-comes p u = by (u == out0) (u == out1)
-    where
-      by : (a b : Bool) → cond a (every_second p []) (cond b (every_second (1 - p) []) []) ≡ []
-      by true b = refl
-      by false true = refl
-      by false false = refl
-
-  here : (token client wire : ℕ) → last_on token client wire wire ≡ (token, client) ∷ []
-  here token client wire = rw (eq-eqb wire wire refl) refl
+  nothing-comes p u = grind (arith, nat_tests)
 
   not-here : (token client wire u : ℕ) → wire ≢ u → last_on token client wire u ≡ []
   not-here token client wire u other = rw (ne_eqb wire u other) refl
 
   -- a token more comes to the first wire, or to the second
-  more-first : (token client u : ℕ) (rest : List (ℕ × ℕ))
-      → last_on token client out0 u ++ comes 1 rest u ≡ comes 0 ((token, client) ∷ rest) u
-  unfolding every_second
-  more-first token client u rest = elim (cases_eq out0 u) [
-    | inl e ↦ subst (λ (x : ℕ). last_on token client out0 x ++ comes 1 rest x ≡ comes 0 ((token, client) ∷ rest) x) e
-        ((λ i. here token client out0 i ++ at-first 1 rest i) ∙ sym (at-first 0 ((token, client) ∷ rest)))
-    | inr other ↦ elim (cases_eq out1 u) [
-      | inl e ↦ subst (λ (x : ℕ). last_on token client out0 x ++ comes 1 rest x ≡ comes 0 ((token, client) ∷ rest) x) e
-          ((λ i. not-here token client out0 out1 differ i ++ at-second 1 rest i) ∙ sym (at-second 0 ((token, client) ∷ rest)))
-      | inr neither ↦
-          (λ i. not-here token client out0 u other i ++ at-other 1 rest u (λ e. other (sym e)) (λ e. neither (sym e)) i)
-          ∙ sym (at-other 0 ((token, client) ∷ rest) u (λ e. other (sym e)) (λ e. neither (sym e)))
-    ]
-  ]
-
-  more-second : (token client u : ℕ) (rest : List (ℕ × ℕ))
-      → last_on token client out1 u ++ comes 0 rest u ≡ comes 1 ((token, client) ∷ rest) u
-  unfolding every_second
-  more-second token client u rest = elim (cases_eq out0 u) [
-    | inl e ↦ subst (λ (x : ℕ). last_on token client out1 x ++ comes 0 rest x ≡ comes 1 ((token, client) ∷ rest) x) e
-        ((λ i. not-here token client out1 out0 (λ same. differ (sym same)) i ++ at-first 0 rest i)
-        ∙ sym (at-first 1 ((token, client) ∷ rest)))
-    | inr other ↦ elim (cases_eq out1 u) [
-      | inl e ↦ subst (λ (x : ℕ). last_on token client out1 x ++ comes 0 rest x ≡ comes 1 ((token, client) ∷ rest) x) e
-          ((λ i. here token client out1 i ++ at-second 0 rest i) ∙ sym (at-second 1 ((token, client) ∷ rest)))
-      | inr neither ↦
-          (λ i. not-here token client out1 u neither i ++ at-other 0 rest u (λ e. other (sym e)) (λ e. neither (sym e)) i)
-          ∙ sym (at-other 1 ((token, client) ∷ rest) u (λ e. other (sym e)) (λ e. neither (sym e)))
-    ]
-  ]
-
   more : (output token client u : ℕ) (rest : List (ℕ × ℕ))
       → last_on token client (out_of out0 out1 (output % 2)) u ++ comes ((output + 1) % 2) rest u
       ≡ comes (output % 2) ((token, client) ∷ rest) u
+  unfolding every_second
   more output token client u rest = by (output % 2) ((output + 1) % 2) (omega arith) (omega arith)
     where
       by : (p q : ℕ) → p < 2 → q ≡ 1 - p → last_on token client (out_of out0 out1 p) u ++ comes q rest u
           ≡ comes p ((token, client) ∷ rest) u
-      by zero q low is = rw is (more-first token client u rest)
-      by (suc zero) q low is = rw is (more-second token client u rest)
+      by zero q low is = rw is (grind (arith, nat_tests))
+      by (suc zero) q low is = rw is (grind (arith, nat_tests))
       by (suc (suc p)) q low is = absurd (omega arith)
 
   -- the lists after tokens of a wire were dealt
@@ -200,8 +140,7 @@ module _ (out0 out1 : ℕ) (differ : out0 ≢ out1) where
   dealt-lists wire output [] old new differ0 differ1 inside in0 in1 once is same = record {
     wires = ap (λ (y : Yard). length y.lists) same;
     empty = ap (λ (y : Yard). on y.lists wire) same ∙ is;
-    others = λ u other. ap (λ (y : Yard). on y.lists u) same ∙ sym (append-nil (on old.lists u))
-        ∙ ap (λ (es : List (ℕ × ℕ)). on old.lists u ++ es) (sym (nothing-comes (output % 2) u));
+    others = λ u other. ap (λ (y : Yard). on y.lists u) same ∙ rw (nothing-comes (output % 2) u) (sym (append-nil (on old.lists u)));
     spare = ap (λ (y : Yard). y.spare) same;
     count = ap (λ (y : Yard). tokens_in y.lists) same;
   }
@@ -210,8 +149,8 @@ module _ (out0 out1 : ℕ) (differ : out0 ≢ out1) where
       let lands : to < length old.lists = either-out (λ u. u < length old.lists) out0 out1 (output % 2) in0 in1 in
       let away : wire ≢ to = either-out (λ u. wire ≢ u) out0 out1 (output % 2) differ0 differ1 in
       let left : on between.lists wire ≡ rest =
-      moves.lists wire ∙ (λ i. rest-on old.lists token client wire rest once inside is i
-      ++ not-here token client to wire (λ e. away (sym e)) i) ∙ append-nil rest in
+      moves.lists wire ∙ rw (rest-on old.lists token client wire rest once inside is, not-here token client to wire (λ e. away (sym e)))
+      (append-nil rest) in
       let once_more : (k : ℕ) → times_in between.lists k ≤ 1 =
       λ k. once-moved old.lists token client wire rest once inside is between.lists moves.wires k to lands moves.lists in
       let after = dealt-lists wire (output + 1) rest between new differ0 differ1 (omega (arith, inside, moves.wires))
@@ -235,20 +174,16 @@ module _ (out0 out1 : ℕ) (differ : out0 ≢ out1) where
       → ((k : ℕ) → times_in old.lists k ≤ 1) → Deals (out_of out0 out1) output (on old.lists wire) old new
       → IsDealt wire output out0 out1 old new
   dealt wire output old new differ0 differ1 inside in0 in1 low once deals =
-      let all = dealt-lists wire output (on old.lists wire) old new differ0 differ1 inside in0 in1 once refl deals in
       let same : output % 2 ≡ output = omega (arith, low) in
-      let tokens = on old.lists wire in
+      let all = rw same at (dealt-lists wire output (on old.lists wire) old new differ0 differ1 inside in0 in1 once refl deals) in
       record {
         wires = all.wires;
         empty = all.empty;
-        first = all.others out0 (λ e. differ0 (sym e))
-            ∙ ap (λ (es : List (ℕ × ℕ)). on old.lists out0 ++ es)
-            (at-first (output % 2) tokens ∙ ap (λ (p : ℕ). every_second p tokens) same);
+        first = all.others out0 (λ e. differ0 (sym e)) ∙ rw (eq-eqb out0 out0 refl) refl;
         second = all.others out1 (λ e. differ1 (sym e))
-            ∙ ap (λ (es : List (ℕ × ℕ)). on old.lists out1 ++ es)
-            (at-second (output % 2) tokens ∙ ap (λ (p : ℕ). every_second (1 - p) tokens) same);
+            ∙ rw (ne_eqb out1 out0 (λ e. differ (sym e)), eq-eqb out1 out1 refl) refl;
         others = λ u other first second. all.others u other
-            ∙ ap (λ (es : List (ℕ × ℕ)). on old.lists u ++ es) (at-other (output % 2) tokens u first second) ∙ append-nil (on old.lists u);
+            ∙ rw (ne_eqb u out0 first, ne_eqb u out1 second) (append-nil (on old.lists u));
         spare = all.spare;
         tokens = all.count;
       }

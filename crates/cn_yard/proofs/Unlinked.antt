@@ -1,6 +1,7 @@
 -- A record is taken off its line.
-use Rattle.std.proofs.Common.{◌≡◌, ◌≢◌, ℕ, ◌+◌, ◌-◌, ◌<◌, ◌≤◌, inl, inr, Bool, true, false, cond, eqb, List, [], ◌∷◌, length, set, refl, sym, ap, ◌∙◌, arith, subst, ◌||◌, ◌⊎◌}
+use Rattle.std.proofs.Common.{◌≡◌, ◌≢◌, ℕ, ◌-◌, ◌<◌, ◌≤◌, inl, inr, true, false, cond, eqb, List, [], ◌∷◌, length, set, refl, sym, ap, ◌∙◌, arith, subst, ◌||◌}
 use Rattle.cn_yard.proofs.Common.{Line, Record, but, cases_eq, count_of, line_of, nat_tests, next_of, no_line, prev_of, times, times-nil, wire_of}
+use Rattle.std.proofs.lemmas.Bool.{cases_Bool}
 use Rattle.std.proofs.lemmas.List.{get_or-set_other, get_or-set_same, length-set}
 use Rattle.cn_yard.specs.Chains.{Chain, head_or, last_or}
 use Rattle.cn_yard.specs.Lines.{Ends, IsOff, Linked, line_without}
@@ -13,32 +14,23 @@ use Rattle.cn_yard.proofs.Chains.{but-cons, but-head, but-out, chain-but, chain-
 module _ (n p : ℕ → ℕ) where
   -- the first of those that are left, where the first is taken
   head-left : (t x : ℕ) (xs : List ℕ) → Chain n p (x ∷ xs) → x ≡ t → times t (x ∷ xs) ≡ 1 → head_or (n t) (but t (x ∷ xs)) ≡ n t
-  head-left t x [] c h one = rw (gone h) refl
-    where
-      gone : x ≡ t → but t (x ∷ []) ≡ []
-      gone h = grind (arith, nat_tests)
+  head-left t x [] c h one = let gone : but t (x ∷ []) ≡ [] = grind (arith, nat_tests) in rw gone refl
   head-left t x (y ∷ ys) c h one =
-      let tied = (chain-tied n p x y ys c).0 in
       let m = times-cons t x (y ∷ ys) in
       let out = but-out t (y ∷ ys) (grind (arith, nat_tests)) in
-      rw (gone h, out) (sym tied ∙ ap n h)
-    where
-      gone : x ≡ t → but t (x ∷ y ∷ ys) ≡ but t (y ∷ ys)
-      gone h = grind (arith, nat_tests)
+      let gone : but t (x ∷ y ∷ ys) ≡ but t (y ∷ ys) = grind (arith, nat_tests) in
+      rw (gone, out) (sym (chain-tied n p x y ys c).0 ∙ ap n h)
 
   -- the last of those that are left, where the last is taken
   tail-left : (t x : ℕ) (xs : List ℕ) → Chain n p (x ∷ xs) → times t (x ∷ xs) ≡ 1 → last_or x xs ≡ t
       → last_or (p t) (but t (x ∷ xs)) ≡ p t
   unfolding last_or
-  tail-left t x [] c one h = rw gone refl
-    where
-      gone : but t (x ∷ []) ≡ []
-      gone = grind (arith, nat_tests)
+  tail-left t x [] c one h = let gone : but t (x ∷ []) ≡ [] = grind (arith, nat_tests) in rw gone refl
   tail-left t x (y ∷ ys) c one h =
       let in' : 1 ≤ times t (y ∷ ys) = subst (λ (k : ℕ). 1 ≤ times k (y ∷ ys)) h (last-in y ys) in
       let m = times-cons t x (y ∷ ys) in
-      let o : x ≢ t = λ e. absurd (grind (arith, nat_tests)) in
-      rw (but-cons t x (y ∷ ys) o) (last-left n p t x (y ∷ ys) c (omega arith) h (omega arith))
+      let left : but t (x ∷ y ∷ ys) ≡ x ∷ but t (y ∷ ys) = grind (arith, nat_tests) in
+      rw left (last-left n p t x (y ∷ ys) c (omega arith) h (omega arith))
 
   -- the ends
   pub ends-but : (line : Line) (t : ℕ) (xs : List ℕ) → Ends line xs → Chain n p xs → times t xs ≡ 1
@@ -123,11 +115,6 @@ pub record Unlinks (records : List Record) (lines : List Line) (records' : List 
   pub lines_are : lines' ≡ set lines (wire_of records t)
       (line_without (line_of lines (wire_of records t)) t (prev_of records t) (next_of records t))
 
--- a test holds or does not
-cases-bool : (b : Bool) → (b ≡ true) ⊎ (b ≡ false)
-cases-bool true = inl refl
-cases-bool false = inr refl
-
 -- then the records but the links, and the counts, are as stated
 pub off-kept : (records : List Record) (lines : List Line) (records' : List Record) (lines' : List Line) (t : ℕ)
     → wire_of records t < length lines → 1 ≤ count_of lines (wire_of records t)
@@ -135,22 +122,16 @@ pub off-kept : (records : List Record) (lines : List Line) (records' : List Reco
 off-kept records lines records' lines' t h some un =
     let w = wire_of records t in
     let new = line_without (line_of lines w) t (prev_of records t) (next_of records t) in
-    let which = cases-bool (eqb (line_of lines w).first t || eqb (line_of lines w).last t) in
+    let which = cases_Bool (eqb (line_of lines w).first t || eqb (line_of lines w).last t) in
+    let same = ap (λ (x : Line). x.count) (get_or-set_same lines w new no_line h) in
     record {
       len = elim which [ inl e ↦ ap length (un.at_end e) | inr e ↦ (un.between e).len ];
       as_many = rw un.lines_are (length-set lines w new);
       wire = λ z. elim which [ inl e ↦ rw (un.at_end e) refl | inr e ↦ (un.between e).wire z ];
       client = λ z. elim which [ inl e ↦ rw (un.at_end e) refl | inr e ↦ (un.between e).client z ];
-      count = λ u. elim (cases_eq w u) [
-        | inl e ↦ let f : eqb w u ≡ true = grind (arith, nat_tests) in
-            let c : count_of (set lines w new) w ≡ count_of lines w - 1 =
-            ap (λ (x : Line). x.count) (get_or-set_same lines w new no_line h) in
-            rw (f, un.lines_are) (subst (λ (v : ℕ). count_of (set lines w new) v + 1 ≡ count_of lines v) e (omega (arith, c)))
-        | inr o ↦ let f : eqb w u ≡ false = grind (arith, nat_tests) in
-            let c : count_of (set lines w new) u ≡ count_of lines u =
-            ap (λ (x : Line). x.count) (get_or-set_other lines w u new no_line (λ k. o (sym k))) in
-            rw (f, un.lines_are) (omega (arith, c))
-      ];
+      count = λ u. let other : u ≢ w → count_of (set lines w new) u ≡ count_of lines u =
+          λ o. ap (λ (x : Line). x.count) (get_or-set_other lines w u new no_line o) in
+          rw un.lines_are (grind (arith, nat_tests));
     }
 
 -- and the lines run through the lists without the number
@@ -163,7 +144,7 @@ off-linked records lines records' lines' order t l h one un kept =
     let n = next_of records in
     let p = prev_of records in
     let new = line_without (line_of lines w) t (p t) (n t) in
-    let which = cases-bool (eqb (line_of lines w).first t || eqb (line_of lines w).last t) in
+    let which = cases_Bool (eqb (line_of lines w).first t || eqb (line_of lines w).last t) in
     record {
       chain = λ u within.
           let hu : u < length lines = rw kept.as_many at within in
@@ -214,7 +195,7 @@ times-le t xs = omega (arith, length-but t xs)
 
 pub some-there : (records : List Record) (lines : List Line) (order : ℕ → List ℕ) → Linked records lines order → (t u : ℕ)
     → u < length lines → 1 ≤ times t (order u) → 1 ≤ count_of lines u
-some-there records lines order l t u h some = let e = l.ends u h in let c = e.count in omega (arith, times-le t (order u))
+some-there records lines order l t u h some = omega (arith, (l.ends u h).count, times-le t (order u))
 
 -- the neighbours of a record that is at neither end are records
 pub near-below : (records : List Record) (lines : List Line) (order : ℕ → List ℕ) → Linked records lines order → (t : ℕ)

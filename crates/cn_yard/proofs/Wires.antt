@@ -1,12 +1,12 @@
 -- What stands on the wires of a yard.
-use Rattle.std.proofs.Common.{◌≡◌, ◌≢◌, ℕ, zero, suc, ◌+◌, ◌<◌, ◌≤◌, inl, inr, Bool, true, false, cond, not, nat_eq, eqb, ltb, List, [], ◌∷◌, ◌++◌, length, refl, sym, ap, ◌∙◌, arith, subst, Some, None}
-use Rattle.cn_yard.proofs.Common.{Inside, Keeps, but, cases_eq, cases_lt, client_of, count_by, count_of, last_on, line_of, lists_of, lookup, moved, nat_tests, next_of, on, prev_of, standing, times, times-nil, times_in, tokens_in, wire_of, without}
+use Rattle.std.proofs.Common.{◌≡◌, ◌≢◌, ℕ, zero, suc, ◌+◌, ◌<◌, ◌≤◌, inl, inr, cond, nat_eq, eqb, ltb, List, [], ◌∷◌, ◌++◌, length, refl, sym, ap, ◌∙◌, arith, Some, None}
+use Rattle.cn_yard.proofs.Common.{Inside, Keeps, but, cases_lt, client_of, count_by, count_of, last_on, line_of, lists_of, lookup, moved, nat_tests, next_of, on, prev_of, standing, times, times-nil, times_in, tokens_in, wire_of, without}
 use Rattle.std.specs.Prelude.{IsSome}
 use Rattle.std.proofs.lemmas.List.{length-map, map-append}
 use Rattle.std.proofs.lemmas.List.Sums.{sum_by-cons}
 use Rattle.std.proofs.lemmas.List.FromFn.{get_or-map-range_with_len}
 use Rattle.cn_spec.specs.Sums.{sum_below}
-use Rattle.cn_spec.proofs.CallerLemmas.{times-cons, sum-below-same}
+use Rattle.cn_spec.proofs.CallerLemmas.{times-cons, sum-below-next, sum-below-same}
 use Rattle.cn_yard.proofs.There.{there}
 use Rattle.cn_yard.specs.Lists.{IsThere, next_after}
 use Rattle.cn_yard.specs.Chains.{Chain, last_of, last_or}
@@ -20,13 +20,13 @@ use Rattle.cn_yard.proofs.Standings.{standing-none, standing-only}
 -- how often a number stands among numbers with their clients
 pub times-clients : (client : ℕ → ℕ) (t : ℕ) (xs : List ℕ) → count_by (λ e. nat_eq t e.0) (with_clients client xs) ≡ times t xs
 times-clients client t [] = let none = times-nil t in grind (arith, nat_tests)
-times-clients client t (x ∷ xs) =
-    let more : count_by (λ e. nat_eq t e.0) (with_clients client (x ∷ xs))
-    ≡ cond (nat_eq t x) 1 0 + count_by (λ e. nat_eq t e.0) (with_clients client xs) =
-    sum_by-cons (λ e. cond (nat_eq t e.0) 1 0) (x, client x) (with_clients client xs) in
-    let here = times-cons t x xs in
-    let rest = times-clients client t xs in
-    grind (arith, nat_tests)
+times-clients client t (x ∷ xs) = grind (
+  arith,
+  nat_tests,
+  times-cons t x xs,
+  times-clients client t xs,
+  sum_by-cons (λ e. cond (nat_eq t e.0) 1 0) (x, client x) (with_clients client xs),
+)
 
 -- a number that is not there has no client, and one that is there has its own
 pub lookup-out : (client : ℕ → ℕ) (t : ℕ) (xs : List ℕ) → times t xs ≡ 0 → lookup (nat_eq t) (with_clients client xs) ≡ None
@@ -36,23 +36,12 @@ lookup-out client t (x ∷ xs) h = grind (arith, nat_tests, times-cons t x xs, l
 pub lookup-in : (client : ℕ → ℕ) (t : ℕ) (xs : List ℕ) → 1 ≤ times t xs
     → lookup (nat_eq t) (with_clients client xs) ≡ Some (client t)
 lookup-in client t [] h = absurd (omega (arith, times-nil t))
-lookup-in client t (x ∷ xs) h =
-    elim (cases_eq x t) [
-      | inl e ↦ let f : nat_eq t x ≡ true = grind (arith, nat_tests) in rw f (ap (λ (n : ℕ). Some (client n)) e)
-      | inr o ↦ let f : nat_eq t x ≡ false = grind (arith, nat_tests) in
-          rw f (lookup-in client t xs (let m = times-cons t x xs in grind (arith, nat_tests)))
-    ]
+lookup-in client t (x ∷ xs) h = grind (arith, nat_tests, times-cons t x xs, lookup-in client t xs)
 
 -- without one of them
 pub without-clients : (client : ℕ → ℕ) (t : ℕ) (xs : List ℕ) → without t (with_clients client xs) ≡ with_clients client (but t xs)
 without-clients client t [] = refl
-without-clients client t (x ∷ xs) = by (nat_eq t x) (without-clients client t xs)
-  where
-    by : (b : Bool) → without t (with_clients client xs) ≡ with_clients client (but t xs)
-        → cond {A = List (ℕ × ℕ)} (not b) ((x, client x) ∷ without t (with_clients client xs)) (without t (with_clients client xs))
-        ≡ with_clients client (cond {A = List ℕ} (not b) (x ∷ but t xs) (but t xs))
-    by true rest = rest
-    by false rest = ap (λ es. (x, client x) ∷ es) rest
+without-clients client t (x ∷ xs) = grind (arith, nat_tests, without-clients client t xs)
 
 -- clients that agree on the numbers of a list
 pub clients-same : (client client' : ℕ → ℕ) (xs : List ℕ) → ((n : ℕ) → 1 ≤ times n xs → client' n ≡ client n)
@@ -65,37 +54,23 @@ clients-same client client' (x ∷ xs) same =
 
 -- the client of a number at the end
 clients-last : (client : ℕ → ℕ) (t to u : ℕ) → with_clients client (last_of t to u) ≡ last_on t (client t) to u
-clients-last client t to u = by (eqb to u)
-  where
-    by : (b : Bool) → with_clients client (cond b (t ∷ []) []) ≡ cond {A = List (ℕ × ℕ)} b ((t, client t) ∷ []) []
-    by true = refl
-    by false = refl
+clients-last client t to u = grind (arith, nat_tests)
 
 -- the token after one
 pub after-clients : (n p : ℕ → ℕ) (client : ℕ → ℕ) (t d : ℕ) (xs : List ℕ) → Chain n p xs → times t xs ≡ 1
     → next_after t (with_clients client xs) ≡ cond (eqb (last_or d xs) t) None (Some (n t))
 unfolding next_after last_or
 after-clients n p client t d [] c one = absurd (omega (arith, times-nil t))
-after-clients n p client t d (x ∷ []) c one =
-    let m = times-cons t x [] in let none = times-nil t in
-    let e : x ≡ t = grind (arith, nat_tests) in
-    let f : eqb t x ≡ true = grind (arith, nat_tests) in
-    let g : eqb x t ≡ true = grind (arith, nat_tests) in
-    rw (f, g) refl
+after-clients n p client t d (x ∷ []) c one = grind (arith, nat_tests, times-cons t x [], times-nil t)
 after-clients n p client t d (x ∷ y ∷ ys) c one =
-    let m = times-cons t x (y ∷ ys) in
-    elim (cases_eq x t) [
-      | inl e ↦
-          let f : eqb t x ≡ true = grind (arith, nat_tests) in
-          let last = last-in y ys in
-          let other : last_or y ys ≢ t = λ h. absurd
-          (let k : 1 ≤ times t (y ∷ ys) = subst (λ (k : ℕ). 1 ≤ times k (y ∷ ys)) h last in grind (arith, nat_tests)) in
-          let g : eqb (last_or y ys) t ≡ false = grind (arith, nat_tests) in
-          rw (f, g) (ap (λ (k : ℕ). Some k) (sym (chain-tied n p x y ys c).0 ∙ ap n e))
-      | inr o ↦
-          let f : eqb t x ≡ false = grind (arith, nat_tests) in
-          rw f (after-clients n p client t x (y ∷ ys) (chain-rest n p x (y ∷ ys) c) (grind (arith, nat_tests)))
-    ]
+    grind (
+      arith,
+      nat_tests,
+      times-cons t x (y ∷ ys),
+      last-in y ys,
+      (chain-tied n p x y ys c).0,
+      after-clients n p client t x (y ∷ ys) (chain-rest n p x (y ∷ ys) c),
+    )
 
 -- ---- sums
 
@@ -104,10 +79,6 @@ sum-once : (n w : ℕ) (f : ℕ → ℕ) → ((u : ℕ) → u < n → f u ≤ co
 unfolding sum_below
 sum-once zero w f h = omega arith
 sum-once (suc n) w f h = let here = h n (omega arith) in let rest = sum-once n w f (λ u l. h u (omega arith)) in grind (arith, nat_tests)
-
-sum-last : (n : ℕ) (f : ℕ → ℕ) → sum_below (n + 1) f ≡ sum_below n f + f n
-unfolding sum_below
-sum-last n f = let e : n + 1 ≡ suc n = omega arith in rw e refl
 
 -- ---- a yard's wires
 
@@ -137,7 +108,7 @@ module _ (y : Inside) (order : ℕ → List ℕ) (k : Keeps y order) where
       let w = k.wires in
       let free = (k.lined.links.linked.ends y.wires (omega arith)).count in
       let all : sum_below (y.wires + 1) (λ u. length (order u)) ≡ length y.records.items = rw w at k.lined.links.all in
-      let last = sum-last y.wires (λ u. length (order u)) in
+      let last = sum-below-next (λ u. length (order u)) y.wires in
       let same = sum-below-same y.wires (λ u. length (on (lists_of y) u)) (λ u. length (order u))
       (λ u h. ap length (on-wire u h) ∙ length-map (order u) (λ n. (n, client_of y.records.items n))) in
       rw (wires-are y) (omega arith)
@@ -180,10 +151,8 @@ module _ (y : Inside) (order : ℕ → List ℕ) (k : Keeps y order) where
   pub standing-past : (t : ℕ) → length y.records.items ≤ t → standing (lists_of y) t ≡ None
   standing-past t past =
       let as_many = k.wires in
-      standing-none (length (lists_of y)) (lists_of y) t (λ u h. lookup-none t u (λ l. elim (cases_lt 0 (times t (order u))) [
-        | inl s ↦ absurd (let b = k.lined.links.linked.below t u (omega arith) (omega arith) in omega arith)
-        | inr s ↦ omega arith
-      ]))
+      standing-none (length (lists_of y)) (lists_of y) t
+      (λ u h. lookup-none t u (λ l. grind (arith, k.lined.links.linked.below t u (omega arith))))
 
   -- a token that stands there is a record that names a wire
   pub live : (t : ℕ) → IsSome (standing (lists_of y) t) → (t < length y.records.items) × (wire_of y.records.items t < y.wires)

@@ -37,15 +37,10 @@ halves t c =
     c.split_at.ensures.front c.split_at.ensures.back c.if-wires-eq1.false c.requires.row c.requires.loose
     c.in_ok-x.ensures.built c.in_ok-x.ensures.order c.in_ok-x2.ensures.built c.in_ok-x2.ensures.order
 
-pub merger-requires-clause-rows : goal.merger-requires-clause-rows
-merger-requires-clause-rows t c =
-    let (n, both) = halves t (goal.at.merger-requires-clause-rows t c).In_ok-x2 in
-    rw (c.deref.ensures.value, c.deref-2.ensures.value) (merger-asked both).0
-
-pub merger-requires-clause-loose : goal.merger-requires-clause-loose
-merger-requires-clause-loose t c =
-    let (n, both) = halves t (goal.at.merger-requires-clause-loose t c).In_ok-x2 in
-    rw (c.deref.ensures.value, c.deref-2.ensures.value) (merger-asked both).1
+pub merger-requires : goal.merger-requires
+merger-requires t c =
+    let (n, both) = halves t (goal.at.merger-requires t c).In_ok-x2 in
+    rw (c.deref.ensures.value, c.deref-2.ensures.value) (record { rows = (merger-asked both).0; loose = (merger-asked both).1 })
 
 pub returns-clause-built : goal.returns-clause-built
 returns-clause-built t c =

@@ -50,20 +50,11 @@ inner t c =
     even odd2 odd even2 c.if-x-eq1.false c.requires.rows c.requires.loose
     c.in_ok-z.ensures.built c.in_ok-z.ensures.order c.in_ok-z2.ensures.built c.in_ok-z2.ensures.order
 
-pub join_all-requires-2-clause-same : goal.join_all-requires-2-clause-same
-join_all-requires-2-clause-same t c =
-    let (n, parts) = inner t (goal.at.join_all-requires-2-clause-same t c).In_ok-z2 in
-    rw (c.deref-5.ensures.value, c.deref-6.ensures.value) (last-asked parts).0
-
-pub join_all-requires-2-clause-room : goal.join_all-requires-2-clause-room
-join_all-requires-2-clause-room t c =
-    let (n, parts) = inner t (goal.at.join_all-requires-2-clause-room t c).In_ok-z2 in
-    rw c.deref-5.ensures.value (last-asked parts).1
-
-pub join_all-requires-2-clause-loose : goal.join_all-requires-2-clause-loose
-join_all-requires-2-clause-loose t c =
-    let (n, parts) = inner t (goal.at.join_all-requires-2-clause-loose t c).In_ok-z2 in
-    rw (c.deref-5.ensures.value, c.deref-6.ensures.value) (last-asked parts).2
+pub join_all-requires-2 : goal.join_all-requires-2
+join_all-requires-2 t c =
+    let (n, parts) = inner t (goal.at.join_all-requires-2 t c).In_ok-z2 in
+    let asked = last-asked parts in
+    rw (c.deref-5.ensures.value, c.deref-6.ensures.value) (record { same = asked.0; room = asked.1; loose = asked.2 })
 
 pub returns-clause-built : goal.returns-clause-built
 returns-clause-built t c =

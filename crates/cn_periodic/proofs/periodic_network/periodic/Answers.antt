@@ -35,25 +35,16 @@ drawing c =
     drawn c.args.width c.in-Some.level (λ f. net.periodic c.in-Some.level (map f (range_with_len 0 c.args.width))) new.plan new.loose
     new.level made.built made.row made.flow
 
-pub finish_counting-requires-clause-count : goal.finish_counting-requires-clause-count
-finish_counting-requires-clause-count c =
-    let draft = drawing (goal.at.finish_counting-requires-clause-count c).In_ok-exits in
-    rw c.deref-2.ensures.value (outputs-count c.in-Some.level c.in_ok-exits.exits.items c.in-Some.ensures.small draft.exits)
-
-pub finish_counting-requires-clause-each : goal.finish_counting-requires-clause-each
-finish_counting-requires-clause-each c =
-    rw c.deref-2.ensures.value (drawing (goal.at.finish_counting-requires-clause-each c).In_ok-exits).each
-
-pub finish_counting-requires-clause-counts : goal.finish_counting-requires-clause-counts
-finish_counting-requires-clause-counts c =
-    let draft = drawing (goal.at.finish_counting-requires-clause-counts c).In_ok-exits in
-    rw c.deref-2.ensures.value
-    (drawn-counts draft (λ f. c.periodic_counts.ensures.is_step c.in-Some.level (map f (range_with_len 0 c.args.width))
-    (flows-row f c.args.width c.in-Some.level c.in-Some.ensures)))
-
-pub finish_counting-requires-clause-deep : goal.finish_counting-requires-clause-deep
-finish_counting-requires-clause-deep c =
-    rw c.deref-2.ensures.value (drawing (goal.at.finish_counting-requires-clause-deep c).In_ok-exits).deep
+pub finish_counting-requires : goal.finish_counting-requires
+finish_counting-requires c =
+    let draft = drawing (goal.at.finish_counting-requires c).In_ok-exits in
+    rw c.deref-2.ensures.value (record {
+      count = outputs-count c.in-Some.level c.in_ok-exits.exits.items c.in-Some.ensures.small draft.exits;
+      each = draft.each;
+      counts = drawn-counts draft (λ f. c.periodic_counts.ensures.is_step c.in-Some.level (map f (range_with_len 0 c.args.width))
+          (flows-row f c.args.width c.in-Some.level c.in-Some.ensures));
+      deep = draft.deep;
+    })
 
 pub returns-clause-built : goal.returns-clause-built
 returns-clause-built c level e =
@@ -76,6 +67,3 @@ returns-clause-exits c level e f full =
     let done = c.in_ok-finish_counting.ensures in
     let row = (drawing (goal.at.returns-clause-exits c).In_ok-exits).flow f (done.draft f full) in
     rw same (done.exits f ∙ rw c.deref-2.ensures.value row)
-
-pub returns-in_default-clause-width : goal.returns-in_default-clause-width
-returns-in_default-clause-width c = search rules

@@ -40,6 +40,3 @@ returns-clause-exits c level e f full =
     let done = c.in_ok-finish_counting.ensures in
     let row = (drawing (goal.at.returns-clause-exits c).In_ok-exits).flow f (done.draft f full) in
     rw same (done.exits f ∙ rw c.deref.ensures.value row)
-
-pub returns-in_default-clause-width : goal.returns-in_default-clause-width
-returns-in_default-clause-width c = search rules

@@ -5,18 +5,10 @@ use Rattle.cn_yard.proofs.marks.with_bit.Goals as goal
 
 pub returns-then-on : goal.returns-then-on
 returns-then-on c i h =
-    elim (cases_eq i c.args.place) [
-      | inl e ↦ let f : eqb i c.args.place ≡ true = grind (arith, nat_tests) in
-          rw (f, c.if-on.true) (rw e (bit_at_set_same w64 c.args.word c.args.place c.requires))
-      | inr o ↦ let f : eqb i c.args.place ≡ false = grind (arith, nat_tests) in
-          rw f (bit_at_set_other w64 c.args.word c.args.place c.requires i o)
-    ]
+    let same = bit_at_set_same w64 c.args.word c.args.place c.requires in
+    grind (arith, nat_tests, c.if-on.true, bit_at_set_other w64 c.args.word c.args.place c.requires i)
 
 pub returns-else-on : goal.returns-else-on
 returns-else-on c i h =
-    elim (cases_eq i c.args.place) [
-      | inl e ↦ let f : eqb i c.args.place ≡ true = grind (arith, nat_tests) in
-          rw (f, c.if-on.false) (rw e (bit_at_clear_same w64 c.args.word c.args.place c.requires))
-      | inr o ↦ let f : eqb i c.args.place ≡ false = grind (arith, nat_tests) in
-          rw f (bit_at_clear_other w64 c.args.word c.args.place c.requires i h o)
-    ]
+    let same = bit_at_clear_same w64 c.args.word c.args.place c.requires in
+    grind (arith, nat_tests, c.if-on.false, bit_at_clear_other w64 c.args.word c.args.place c.requires i h)

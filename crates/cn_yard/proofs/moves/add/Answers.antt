@@ -8,8 +8,7 @@ pub append-requires-clause-count : goal.append-requires-clause-count
 append-requires-clause-count c =
     let (order, lined) = c.requires.lined in
     let most = count-le c.args.records.now.items c.args.lines.now order lined.links c.args.wire c.requires.wire in
-    let few = c.requires.few in
-    omega arith
+    omega (arith, c.requires.few)
 
 pub append-requires-clause-linked : goal.append-requires-clause-linked
 append-requires-clause-linked c =
@@ -22,9 +21,7 @@ append-requires-clause-linked c =
 pub mark-requires : goal.mark-requires
 mark-requires c =
     let (order, lined) = c.requires.lined in
-    let room = lined.room in
-    let within = c.requires.wire in
-    omega arith
+    omega (arith, lined.room, c.requires.wire)
 
 pub returns-clause-kept : goal.returns-clause-kept
 returns-clause-kept c =

@@ -7,24 +7,14 @@ use Rattle.cn_yard.proofs.moves.add_all.Goals as goal
 pub add-requires-clause-room : goal.add-requires-clause-room
 add-requires-clause-room c =
     let inv = c.loop.invariant in
-    let len = inv.kept.len in
-    let count = inv.count in
-    let capacity = inv.capacity in
-    let room = c.requires.room in
-    let test = c.loop-test.true in
-    let from = c.loop.auto.counter in
     let now : vec_len c.loop.records ≡ length c.loop.records.items = search rules in
     let old : vec_len c.args.records.now ≡ length c.args.records.now.items = search rules in
-    omega arith
+    omega (arith, inv.kept.len, inv.count, inv.capacity, c.requires.room, c.loop-test.true, c.loop.auto.counter)
 
 pub add-requires-clause-few : goal.add-requires-clause-few
 add-requires-clause-few c =
     let len = c.loop.invariant.kept.len in
-    let count = c.loop.invariant.count in
-    let few = c.requires.few in
-    let test = c.loop-test.true in
-    let from = c.loop.auto.counter in
-    omega arith
+    omega (arith, c.loop.invariant.count, c.requires.few, c.loop-test.true, c.loop.auto.counter)
 
 pub add-requires-clause-lined : goal.add-requires-clause-lined
 add-requires-clause-lined c =

@@ -26,9 +26,7 @@ pub append-requires-clause-count : goal.append-requires-clause-count
 append-requires-clause-count c =
     let (order, lined) = c.requires.lined in
     let most = count-le c.args.records.now c.args.lines.now order lined.links c.args.wire c.requires.wire in
-    let fewer = c.unlink.ensures.kept.count c.args.wire in
-    let few = lined.few in
-    omega arith
+    omega (arith, c.unlink.ensures.kept.count c.args.wire, lined.few)
 
 pub append-requires-clause-linked : goal.append-requires-clause-linked
 append-requires-clause-linked c =
@@ -39,17 +37,12 @@ append-requires-clause-linked c =
 pub mark-requires : goal.mark-requires
 mark-requires c =
     let (order, lined) = c.requires.lined in
-    let room = lined.room in
-    let within = lined.links.within c.args.number c.requires.number in
-    omega arith
+    omega (arith, lined.room, lined.links.within c.args.number c.requires.number)
 
 pub mark-requires-2 : goal.mark-requires-2
 mark-requires-2 c =
     let (order, lined) = c.requires.lined in
-    let room = lined.room in
-    let within = c.requires.wire in
-    let words = c.mark.ensures.length in
-    omega arith
+    omega (arith, lined.room, c.requires.wire, c.mark.ensures.length)
 
 pub returns-clause-lined : goal.returns-clause-lined
 returns-clause-lined c order lined =

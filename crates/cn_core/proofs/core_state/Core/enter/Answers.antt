@@ -31,9 +31,3 @@ returns-clause-ledger c =
     rw (← c.self.view_is, c.count_one.ensures.after, clients)
     (λ h earlier a. ledger-enters s h (carried_by s.network.table earlier) c.args.client c.args.entry c.self.invariant.core.state
     (omega arith))
-
-pub returns-then-len-ge-MOST_CLIENTS-clause-event : goal.returns-then-len-ge-MOST_CLIENTS-clause-event
-returns-then-len-ge-MOST_CLIENTS-clause-event c = search rules
-
-pub returns-then-len-ge-MOST_CLIENTS-clause-history : goal.returns-then-len-ge-MOST_CLIENTS-clause-history
-returns-then-len-ge-MOST_CLIENTS-clause-history c = search rules

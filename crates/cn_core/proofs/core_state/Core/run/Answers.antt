@@ -34,9 +34,3 @@ returns-clause-history c =
     let done : drop c.loop-event.event-index c.args.events.now ≡ [] = grind (arith, common_steps) in
     let whole = c.loop-event.invariant.rest [] c.loop-event.self (rw done (λ h earlier a. (tt, a))) in
     rw append-nil at whole
-
-pub returns-in_err-replies-clause-refused : goal.returns-in_err-replies-clause-refused
-returns-in_err-replies-clause-refused c = search rules
-
-pub loop-event-init : goal.loop-event-init
-loop-event-init c = search rules

@@ -1,9 +1,5 @@
-use Rattle.std.proofs.Common.{rules}
 use Rattle.cn_names.proofs.Once.{once}
 use Rattle.cn_names.proofs.names.Names.len.Goals as goal
 
 pub returns-clause-once : goal.returns-clause-once
 returns-clause-once c = λ client. rw (← c.self.view_is) (once client _ c.self.invariant)
-
-pub returns-clause-len : goal.returns-clause-len
-returns-clause-len c = search rules

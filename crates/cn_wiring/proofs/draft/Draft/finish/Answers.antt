@@ -1,4 +1,4 @@
-use Rattle.std.proofs.Common.{◌≡◌, ℕ, List, length, map, refl, ap, ◌∙◌, rules}
+use Rattle.std.proofs.Common.{◌≡◌, ℕ, List, length, map, refl, ap, ◌∙◌}
 use Rattle.cn_spec.specs.Sums.{times}
 use Rattle.cn_tables.specs.Plan.{Plan, loose}
 use Rattle.cn_tables.specs.Table.{Table, balancer_of, plan_of_table}
@@ -50,6 +50,3 @@ returns-in-Ok-clause-depth c =
     let plan : plan_of_table t ≡ d = ap (λ (es : List _). let p : Plan =
     record { entries = c.self.inside.entries; balancers = c.self.inside.balancers; ends = es } in p) ends in
     rw (c.of_parts.ensures, ← c.self.view_is) (closed-depth t d c.args.exits.now c.self.invariant plan all c.in-Ok.ensures.exits)
-
-pub returns-in-Err-clause-refused : goal.returns-in-Err-clause-refused
-returns-in-Err-clause-refused c = search rules

@@ -9,9 +9,8 @@ use Rattle.cn_wiring.proofs.draft.Draft.fork.Goals as goal
 pub index_mut-requires : goal.index_mut-requires
 index_mut-requires c =
     let both : AllLoose (plan_of c.self.inside) (c.args.wire ∷ []) = rw (← c.self.view_is) at c.requires.one in
-    let stand = one-stands (plan_of c.self.inside) c.args.wire both in
     let len : length c.self.inside.ends.items ≡ length c.reserve.new.self.items = ap length (sym c.reserve.ensures.items) in
-    omega (arith, c.reserve.new.self.ok.0)
+    omega (arith, one-stands (plan_of c.self.inside) c.args.wire both, c.reserve.new.self.ok.0)
 
 pub invariant_of-self-2 : goal.invariant_of-self-2
 invariant_of-self-2 c =

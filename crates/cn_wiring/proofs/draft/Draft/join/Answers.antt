@@ -9,16 +9,14 @@ use Rattle.cn_wiring.proofs.draft.Draft.join.Goals as goal
 pub index_mut-requires : goal.index_mut-requires
 index_mut-requires c =
     let both : AllLoose (plan_of c.self.inside) (c.args.u ∷ c.args.v ∷ []) = rw (← c.self.view_is) at c.requires.both in
-    let stand = two-stand (plan_of c.self.inside) c.args.u c.args.v both in
     let len : length c.self.inside.ends.items ≡ length c.reserve.new.self.items = ap length (sym c.reserve.ensures.items) in
-    omega (arith, c.reserve.new.self.ok.0)
+    omega (arith, two-stand (plan_of c.self.inside) c.args.u c.args.v both, c.reserve.new.self.ok.0)
 
 pub index_mut-requires-2 : goal.index_mut-requires-2
 index_mut-requires-2 c =
     let both : AllLoose (plan_of c.self.inside) (c.args.u ∷ c.args.v ∷ []) = rw (← c.self.view_is) at c.requires.both in
-    let stand = two-stand (plan_of c.self.inside) c.args.u c.args.v both in
     let len : length c.self.inside.ends.items ≡ length c.reserve.new.self.items = ap length (sym c.reserve.ensures.items) in
-    omega (arith, c.reserve.new.self.ok.0)
+    omega (arith, two-stand (plan_of c.self.inside) c.args.u c.args.v both, c.reserve.new.self.ok.0)
 
 pub invariant_of-self-2 : goal.invariant_of-self-2
 invariant_of-self-2 c =

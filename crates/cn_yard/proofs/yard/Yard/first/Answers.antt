@@ -40,8 +40,5 @@ returns c =
     let (order, k) = kept here (omega (arith, c.if-count_on-eq0.false)) in
     let y = c.self.inside in
     let read = count-read y order k c.args.wire c.index.result.now (omega (arith, within here)) c.index.ensures in
-    let some : c.index.result.now.count ≡ c.count_on.result = read ∙ sym (counted here) in
-    let zero = c.if-count_on-eq0.false in
-    let f : eqb c.index.result.now.count 0 ≡ false = grind (arith, nat_tests) in
-    rw (← c.self.view_is, c.of.ensures) (sym
-    (first-read y order k c.args.wire c.index.result.now (within here) c.index.ensures ∙ rw f refl))
+    let first = first-read y order k c.args.wire c.index.result.now (within here) c.index.ensures in
+    rw (← c.self.view_is, c.of.ensures) (grind (arith, nat_tests, first, read, counted here, c.if-count_on-eq0.false))

@@ -29,10 +29,7 @@ returns-then-index-number c wire client stands =
     let seen = next-read y order k c.args.token c.index-record.result.now c.index.result.now wire client
     (rw (← c.self.view_is) at c.requires) (rw c.number.ensures at c.index-record.ensures) c.index.ensures
     (rw (← c.self.view_is) at stands) in
-    let test = c.if-index-number.true in
-    let number = c.number-2.ensures in
-    let f : eqb c.index.result.now.last c.args.token ≡ true = grind (arith, nat_tests) in
-    rw (← c.self.view_is) (sym (seen ∙ rw f refl))
+    rw (← c.self.view_is) (grind (arith, nat_tests, seen, c.if-index-number.true, c.number-2.ensures))
 
 pub returns : goal.returns
 returns c wire client stands =
@@ -41,7 +38,4 @@ returns c wire client stands =
     let seen = next-read y order k c.args.token c.index-record.result.now c.index.result.now wire client
     (rw (← c.self.view_is) at c.requires) (rw c.number.ensures at c.index-record.ensures) c.index.ensures
     (rw (← c.self.view_is) at stands) in
-    let test = c.if-index-number.false in
-    let number = c.number-2.ensures in
-    let f : eqb c.index.result.now.last c.args.token ≡ false = grind (arith, nat_tests) in
-    rw (← c.self.view_is, c.of.ensures) (sym (seen ∙ rw f refl))
+    rw (← c.self.view_is, c.of.ensures) (grind (arith, nat_tests, seen, c.if-index-number.false, c.number-2.ensures))

@@ -1,5 +1,0 @@
-use Rattle.std.proofs.Common.{rules}
-use Rattle.cn_names.proofs.names.Names.clear.Goals as goal
-
-pub returns : goal.returns
-returns c = search rules
