@@ -74,7 +74,7 @@ class Bench:
     def __init__(self, options, folder):
         self.small, self.crates, self.folder = options.small, options.crates, pathlib.Path(folder)
         self.ends = time.monotonic() + options.seconds
-        self.chance = random.Random(1996)
+        self.chance, self.peer = random.Random(1996), None
 
     def size(self, full, small):
         return small if self.small else full
@@ -104,9 +104,13 @@ class Bench:
         self.build([ROOT / "renamer", "--help"])
         return str(ROOT / "crates" / "renamer" / "out" / "renamer")
 
-    @functools.cached_property
-    def plain(self):
-        return self.cargo("plain", "plain")
+    def plain(self, network, width, hand, form):
+        """The words of the peer in plain Rust, which reads the network as the program shows it."""
+        if not self.peer:
+            self.peer = self.cargo("plain", "plain")
+        wiring = self.folder / f"{network}-{width}"
+        wiring.write_bytes(self.written([self.proved, "show", "--network", network, "--width", str(width)]))
+        return [self.peer, str(wiring), str(hand), form]
 
     def cargo(self, folder, name, library=False):
         """A program in plain Rust of a folder of bench/, with the peers' crates; one over the library wants that."""

@@ -1,5 +1,5 @@
 #!/usr/bin/env python3
-"""The processor time of `renamer run`, beside `plain walk`, which does the same by single steps. Five runs each.
+"""The processor time of `renamer run`, beside `plain`, which does the same by single steps. Five runs each.
 
 The peer links its tokens, and clears its words between epochs. They run the full batch, 16 epochs of 65,536 clients with
 random identities and entries, on bitonic 64 and periodic 64 and, through its one entry, on the tree of width 64; and
@@ -28,7 +28,7 @@ def rows(bench):
 
     def pair(network, hand, form="report"):
         ours = bench.ours(network, 64, "--hand", hand, "--form", form)
-        return ours, [bench.plain, "walk", network, "64", str(hand), form]
+        return ours, bench.plain(network, 64, hand, form)
 
     def compare(name, jobs, path):
         bench.agree(jobs, path)
