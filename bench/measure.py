@@ -29,6 +29,8 @@ ROOT = BENCH.parent
 DEBIAN = "/usr/share/cargo/registry"
 # A build that proves everything anew takes this long at most.
 BUILD_SECONDS = 7200
+# What a command begins with whose peak of memory is printed on standard error, in kilobytes. It ends with what began it.
+PEAK = ["/usr/bin/time", "-f", "%M", "setpriv", "--pdeathsig", "KILL"]
 HOLDER = re.compile(rb"(?m)^(name \d+ client )(\d+)$")
 
 
