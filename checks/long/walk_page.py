@@ -27,7 +27,8 @@ def wrong_in(browser, folder, page, window, asked, *words):
     (folder / "frame.html").write_text(FRAME % window)
     command = [browser, *WORDS, *words, f"--user-data-dir={folder / 'profile'}", (folder / "frame.html").as_uri()]
     done = subprocess.run(command, stdin=subprocess.DEVNULL, capture_output=True, text=True, timeout=SECONDS)
-    told = html.unescape(re.search("<pre>(.*?)</pre>", done.stdout, re.S)[1])
+    shown = re.search("<pre>(.*?)</pre>", done.stdout, re.S)
+    told = html.unescape(shown[1]) if shown else f"no page: {done.stderr[-300:]}"
     found = json.loads(told) if told.startswith("[") else [told]
     return [f"{' by '.join(map(str, window))} {' '.join(words)}: {what}" for what in found]
 
