@@ -55,11 +55,11 @@ def epoch(bench, clients):
     return bench.write(f"epoch-{clients}", "epoch,client", (f"1,{client}" for client in identities))
 
 
-def take(bench, peak, words, path):
-    """One run, which peak.c starts."""
+def take(bench, words, path):
+    """One run, and its peak."""
     (bench.folder / "batch.db").unlink(missing_ok=True)
     with open(bench.folder / "peak.txt", "w+") as errors:
-        spent = bench.run([peak, *words], path, errors=errors, LC_ALL="C")
+        spent = bench.run([*measure.PEAK, *words], path, errors=errors, LC_ALL="C")
         errors.seek(0)
         return Taken(spent.clock, spent.processor, 1024 * int(errors.read()))
 
@@ -78,16 +78,16 @@ def row(name, clients, runs):
 
 
 def rows(bench):
-    peak, asked, few = bench.compiled(["gcc", "-O1"], "memory/peak.c", "peak"), dict(ways(bench)), epoch(bench, FEW)
+    asked, few = dict(ways(bench)), epoch(bench, FEW)
     for words in asked.values():
         bench.agree([words], few, seen=lambda text: len(set(IDENTITY.findall(text))) == FEW)
     for clients in bench.size((MILLION, 10 * MILLION, 50 * MILLION), (MILLION // 10,)):
         path, rounds = epoch(bench, clients), ROUNDS if clients <= MILLION else 1
-        runs = [[take(bench, peak, words, path) for words in asked.values()] for _ in range(rounds)]
+        runs = [[take(bench, words, path) for words in asked.values()] for _ in range(rounds)]
         yield from (row(name, clients, way) for name, *way in zip(asked, *runs))
         ours, check = next(iter(asked.values())), [bench.proved, "check", "--width", "2", "--large"]
         listed = grants(bench, ours, path)
-        yield row("check --large", clients, [take(bench, peak, check, listed) for _ in range(rounds)])
+        yield row("check --large", clients, [take(bench, check, listed) for _ in range(rounds)])
         path.unlink()
 
 

@@ -29,6 +29,8 @@ ROOT = BENCH.parent
 DEBIAN = "/usr/share/cargo/registry"
 # A build that proves everything anew takes this long at most.
 BUILD_SECONDS = 7200
+# What a command begins with whose peak of memory is printed on standard error, in kilobytes. It ends with what began it.
+PEAK = ["/usr/bin/time", "-f", "%M", "setpriv", "--pdeathsig", "KILL"]
 HOLDER = re.compile(rb"(?m)^(name \d+ client )(\d+)$")
 
 
@@ -74,7 +76,7 @@ class Bench:
     def __init__(self, options, folder):
         self.small, self.crates, self.folder = options.small, options.crates, pathlib.Path(folder)
         self.ends = time.monotonic() + options.seconds
-        self.chance = random.Random(1996)
+        self.chance, self.peer = random.Random(1996), None
 
     def size(self, full, small):
         return small if self.small else full
@@ -104,9 +106,13 @@ class Bench:
         self.build([ROOT / "renamer", "--help"])
         return str(ROOT / "crates" / "renamer" / "out" / "renamer")
 
-    @functools.cached_property
-    def plain(self):
-        return self.cargo("plain", "plain")
+    def plain(self, network, width, hand, form):
+        """The words of the peer in plain Rust, which reads the network as the program shows it."""
+        if not self.peer:
+            self.peer = self.cargo("plain", "plain")
+        wiring = self.folder / f"{network}-{width}"
+        wiring.write_bytes(self.written([self.proved, "show", "--network", network, "--width", str(width)]))
+        return [self.peer, str(wiring), str(hand), form]
 
     def cargo(self, folder, name, library=False):
         """A program in plain Rust of a folder of bench/, with the peers' crates; one over the library wants that."""

@@ -3,19 +3,18 @@
 
 The report of 1,048,576 epochs of one client on bitonic 256, in megabytes of a million bytes; and that of an epoch of
 262,144 clients there, beyond an empty batch, by client. A check by width 256 of the grants of as many epochs of one
-client, and a replay of as many turns on tree 256, whose texts have a count for each exit of each epoch. memory/peak.c
-starts the program and prints its peak: what a script starts would begin with the script's own.
+client, and a replay of as many turns on tree 256, whose texts have a count for each exit of each epoch. GNU `time`
+prints the peak of what it starts: what a script starts would begin with the script's own.
 """
 import measure
 
 
 def rows(bench):
     words = bench.ours("bitonic", 256)
-    peak = bench.compiled(["gcc", "-O1"], "memory/peak.c", "peak")
 
     def of(path, words=words):
         """The peak in bytes of a job, a run if no other is asked for."""
-        return 1024 * int(bench.written([peak, *words], path, stream="errors"))
+        return 1024 * int(bench.written([*measure.PEAK, *words], path, stream="errors"))
 
     epochs, clients = bench.size(1_048_576, 4_096), bench.size(262_144, 16_384)
     yield measure.Row("epochs of one client, bitonic 256", of(bench.single(epochs)) / 1e6, f"{epochs:,} epochs", " MB")

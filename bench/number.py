@@ -36,10 +36,10 @@ def rows(bench):
     pair = [[*ours, "customer_id"], ["mawk", "-F,", AWK]]
     bench.agree(pair, orders_csv, seen=lambda text: text.partition(b"\n")[2])
     yield bench.compare("a million rows, to mawk", [(words, orders_csv) for words in pair], bench.size(ROUNDS, 1))
-    peak, count = bench.compiled(["gcc", "-O1"], "memory/peak.c", "peak"), bench.size(1_000_000, 20_000)
+    count = bench.size(1_000_000, 20_000)
     for width in (20, 500):
         table = wide(bench, count, width)
-        kilobytes = int(bench.written([peak, "/usr/bin/env", *ours[1:], "id"], table, stream="errors"))
+        kilobytes = int(bench.written([*measure.PEAK, *ours, "id"], table, stream="errors"))
         each = f"{kilobytes * 1024 / count:.0f} bytes a row"
         yield measure.Row(f"peak of rows of {width} bytes", kilobytes / 1000, each, " MB")
         table.unlink()

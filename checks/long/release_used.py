@@ -3,7 +3,6 @@ import os
 import pathlib
 import re
 import shutil
-import signal
 import subprocess
 import sys
 import textwrap
@@ -112,30 +111,6 @@ class Used(Made):
         run([place / "usr" / "share" / "renamer" / "check"], self.folder)
         run([self.tree / "install", "--remove", "/usr"], DESTDIR=str(place))
         if files(place):
-            raise Wrong(f"this is left: {files(place)}")
-
-    def install_may_be_killed(self):
-        """By -9, while it copies, or takes away what is there: it is repeated, and what it left is taken away."""
-        place, install = self.folder / "killed", [self.tree / "install", "/usr"]
-        made, own = place / "usr" / "share" / "renamer" / "installed", {"DESTDIR": str(place)}
-
-        def kill_at(lines):
-            begun = subprocess.Popen(install, env={**os.environ, **own}, stdin=subprocess.DEVNULL,
-                                     stdout=subprocess.DEVNULL, stderr=subprocess.DEVNULL, start_new_session=True)
-            while begun.poll() is None and not (made.exists() and made.read_text().count("\n") >= lines):
-                pass
-            if begun.poll() is not None:
-                raise Wrong(f"it ended before its list had {lines} lines")
-            os.killpg(begun.pid, signal.SIGKILL)
-            begun.wait()
-
-        kill_at(500)
-        run(install, **own)
-        if lacking := (files(self.tree) ^ files(place / "usr")) - AT_TOP - {"share/renamer/installed"}:
-            raise Wrong(f"repeated it copies otherwise {lacking}")
-        kill_at(1)
-        run([install[0], "--remove", "/usr"], **own)
-        if list(place.rglob("*")):
             raise Wrong(f"this is left: {files(place)}")
 
     def commands_run_elsewhere(self):

@@ -108,14 +108,6 @@ class Cases:
                   if not it["carries"] and it["kind"] == "bitonic" and it["width"] == 8)
         return self.schedules[at]["schedule"], self.answers[at]
 
-    @staticmethod
-    def long_walk():
-        """A schedule of 19,990 records on bitonic 32: 1,330 clients come in, and most of them walk out."""
-        clients = range(1330)
-        records = [f"enter,{client},{client % 32}" for client in clients]
-        records += [f"step,{client}," for _ in range(16) for client in clients]
-        return "".join(f"{line}\n" for line in ["op,client,wire", *records[:19990]])
-
     def wrong(self, found):
         """Each thing that was found and not expected."""
         for (network, width), lines in zip(self.wirings, found["wirings"], strict=True):

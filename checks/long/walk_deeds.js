@@ -128,11 +128,32 @@ const LOADS = [
         /^One counter: 8 of 8 clients .* network: 8 of 8 add to the busiest of its 16 words, that of entry 0\.$/],
 ];
 
-async function wrongByDeed(at) {
-    const [name, does, id, wanted] = [...DEEDS, ...LOADS][at];
+async function wrongByDeed([name, does, id, wanted]) {
     does();
     await until(() => wanted.test(said(id)));
     return wanted.test(said(id)) ? [] : [`${name}: ${id} says: ${said(id).slice(-300)}`];
+}
+
+const each = deeds => deeds.map(deed => () => wrongByDeed(deed));
+
+// Asks functions one after another what is wrong, and tells the window that has this one in a frame.
+async function tell(asked) {
+    const wrong = [];
+    addEventListener("error", it => wrong.push(it.message));
+    addEventListener("unhandledrejection", it => wrong.push(String(it.reason)));
+    try {
+        await until(() => said("version") || said("status"));
+        for (const ask of asked) wrong.push(...await ask());
+    } catch (why) {
+        wrong.push(String(why.stack));
+    }
+    parent.postMessage(JSON.stringify(wrong), "*");
+}
+
+// Without WebAssembly there is a sentence.
+async function wrongWithout() {
+    await until(() => said("status").includes("needs WebAssembly"));
+    return said("status").includes("needs WebAssembly") ? [] : [`without WebAssembly it says ${said("status")}`];
 }
 
 // Whether the bars behind each part are a staircase, at the end of the lesson's last stop.

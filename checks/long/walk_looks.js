@@ -92,7 +92,8 @@ function wrongColours(isDark) {
 }
 
 // On paper there are no buttons, and the network is whole.
-function wrongPrint() {
+function wrongPrint(stop) {
+    openStop(stop);
     const seen = ["four", "controls", "load", "would", "wider"].filter(id => isSeen(element(id)));
     const frame = element("frame"), wrong = seen.map(id => `${id} is printed`);
     if (!isSeen(element("network")) || frame.scrollWidth > frame.clientWidth + 2) wrong.push("the network is cut");

@@ -1,123 +1,62 @@
-"""What is wrong with docs/walk.html in a browser, through its document: walk_deeds.js has what is done there."""
-import itertools
+"""What is wrong with docs/walk.html in Chromium, which does in a frame what walk_deeds.js and walk_looks.js say. Its time
+goes on as soon as the page only waits."""
+import html
 import json
 import pathlib
-
-from walk_browser import Browser
+import re
+import subprocess
 
 HERE = pathlib.Path(__file__).resolve().parent
 DOCS = HERE.parent.parent / "docs"
-DEEDS = "".join((HERE / name).read_text() for name in ("walk_deeds.js", "walk_looks.js"))
-PHONE, LAPTOP = {"width": 390, "height": 844}, {"width": 1280, "height": 800}
-# A sheet of A4 between its margins.
-SHEET = {"width": 718, "height": 1046}
-# What a finger wants, and what a mouse has at least, in pixels.
-FINGER, MOUSE = 43.5, 24
-# Within so many seconds a click is answered; each is tried so often, and so many records are there then.
-ANSWERS, TRIED, RECORDS = 0.1, 3, 19996
+SCRIPTS = "".join((HERE / name).read_text() for name in ("walk_deeds.js", "walk_looks.js"))
+WORDS = ("--headless", "--no-sandbox", "--disable-gpu", "--hide-scrollbars", "--virtual-time-budget=36000000", "--dump-dom")
+# The sizes of frames, of which one is a sheet of A4 between its margins, and what a finger wants, and a mouse has at least, in pixels.
+PHONE, LAPTOP, WIDE, SHEET, FINGER, MOUSE = (390, 844), (1280, 800), (1280, 900), (718, 1046), 43.5, 24
+DARK = "--blink-settings=preferredColorScheme=0"
+# A page that has the other in a frame, and shows what that tells. And what comes first if there is no WebAssembly.
+FRAME = """<!DOCTYPE html><iframe src="page.html" width="%d" height="%d"></iframe><pre>not told</pre><script>
+addEventListener("message", it => { document.querySelector("pre").textContent = it.data; });</script>"""
+NONE = "<script>WebAssembly.instantiate = () => Promise.reject(Error('none'));</script>"
+# So long Chromium may take.
+SECONDS = 600
 
 
-class Trials:
-    """The trials of one page, each on the page opened anew."""
-
-    def __init__(self, browser, address):
-        self.browser, self.address, self.deeds, self.wrong, self.costs = browser, address, 0, [], {}
-
-    def open(self, **window):
-        self.browser.open(self.address, **window)
-        # The page's own names are seen by what is evaluated here.
-        self.browser.value(DEEDS + "until(() => said('version'))")
-
-    def close(self, where):
-        """What the page complained of, and each address to which it went."""
-        went = [it["params"]["request"]["url"] for it in self.browser.events
-                if it.get("method") == "Network.requestWillBeSent"]
-        self.wrong += [f"{where}: {it}" for it in self.browser.complaints()]
-        known = ("data:", "blob:", self.address)
-        self.wrong += [f"{where}: it asks for {it}" for it in went if not it.startswith(known)]
-
-    def look(self, where, *expressions, **window):
-        self.open(**window)
-        for expression in expressions:
-            self.wrong += [f"{where}: {it}" for it in self.browser.value(expression)]
-        self.close(where)
-
-    def act(self, schedule, answers):
-        """All deeds, in a wide window."""
-        self.open()
-        first, self.deeds = self.browser.value("[DEEDS.length, DEEDS.length + LOADS.length]")
-        for deed in range(first):
-            self.wrong += self.browser.value(f"wrongByDeed({deed})")
-        self.wrong += self.browser.value("wrongStairs()")
-        for deed in range(first, self.deeds):
-            self.wrong += self.browser.value(f"wrongByDeed({deed})")
-        for wrong in ("wrongLoads()", "wrongExtras()", "wrongHurry()"):
-            self.wrong += self.browser.value(wrong)
-        self.wrong += self.browser.value(f"wrongByHand({json.dumps(schedule)}, {json.dumps(answers)})")
-        self.wrong += self.browser.value("wrongPile()") + self.browser.value("wrongSaved()")
-        self.close("deeds")
-
-    def lead(self):
-        """Whether the links lead to headings of the page, to files beside it, or to papers by their numbers."""
-        self.open()
-        for link in self.browser.value("[...document.querySelectorAll('a')].map(it => it.getAttribute('href'))"):
-            if link.startswith("#"):
-                is_right = self.browser.value(f"document.querySelector({json.dumps(link)}) !== null")
-            else:
-                is_right = link.startswith("https://doi.org/") or (DOCS / link).is_file()
-            self.wrong += [] if is_right else [f"the link {link} leads nowhere"]
-
-    def refuse(self):
-        """Without WebAssembly there is a sentence."""
-        source = "WebAssembly.instantiate = () => Promise.reject(Error('none'))"
-        number = self.browser.call("Page.addScriptToEvaluateOnNewDocument", source=source)["identifier"]
-        self.browser.open(self.address)
-        if "needs WebAssembly" not in self.browser.value("document.getElementById('status').textContent"):
-            self.wrong.append("without WebAssembly there is no sentence")
-        self.browser.call("Page.removeScriptToEvaluateOnNewDocument", identifier=number)
-
-    def print(self):
-        for scheme, stop in itertools.product(("light", "dark"), (5, 6)):
-            self.open(prefers_color_scheme=scheme, **SHEET)
-            self.browser.value(f"openStop({stop})")
-            self.browser.print_media(True)
-            self.wrong += [f"print: {it}" for it in self.browser.value("wrongPrint()")]
-            self.browser.print_media(False)
-
-    def walk_long(self, text):
-        """A walk of some 20,000 records: what a click costs before it is answered, at best of some, or what is said."""
-        self.open()
-        written = f"element('schedule').value = {json.dumps(text)}"
-        self.browser.value(f"choose('kind', 'bitonic'); choose('width', 32); {written}; 0")
-        for name in ("load", *TRIED * ("step", "one", "back", "forth")):
-            before = self.browser.spent()
-            words = self.browser.value(f"click('#{name}'); document.body.getBoundingClientRect(); said('status')")
-            cost = self.browser.spent() - before
-            self.costs[name] = min(cost, self.costs.get(name, cost))
-            if name in ("load", "back") and not words.startswith("The page walks again: "):
-                self.wrong.append(f"a long walk: {name} does not say what is done: {words}")
-            self.browser.value("until(() => !/^The page walks again: /.test(said('status')))")
-        at = self.browser.value("said('at')")
-        self.wrong += [] if at == f"{RECORDS} of {RECORDS}" else [f"a long walk is at {at}"]
-        self.wrong += [f"a long walk: {name} takes {1000 * cost:.0f} ms" for name, cost in self.costs.items()
-                       if cost > ANSWERS and name != "load"]
-        self.close("a long walk")
+def wrong_in(browser, folder, page, window, asked, *words):
+    """What is wrong in a frame of this size, by functions that are asked one after another."""
+    (folder / "page.html").write_text(f"{page}<script>{SCRIPTS}tell([{asked}]);</script>")
+    (folder / "frame.html").write_text(FRAME % window)
+    command = [browser, *WORDS, *words, f"--user-data-dir={folder / 'profile'}", (folder / "frame.html").as_uri()]
+    done = subprocess.run(command, stdin=subprocess.DEVNULL, capture_output=True, text=True, timeout=SECONDS)
+    shown = re.search("<pre>(.*?)</pre>", done.stdout, re.S)
+    told = html.unescape(shown[1]) if shown else f"no page: {done.stderr[-300:]}"
+    found = json.loads(told) if told.startswith("[") else [told]
+    return [f"{' by '.join(map(str, window))} {' '.join(words)}: {what}" for what in found]
 
 
-def tried_on_page(program, page, folder, schedule, answers, long_walk):
-    """How many deeds were done on the page, and what is wrong."""
-    file = folder / "page.html"
-    file.write_text(page)
-    with Browser(program, folder) as browser:
-        trials = Trials(browser, file.as_uri())
-        trials.act(schedule, answers)
-        trials.lead()
-        trials.look("a laptop", "wrongFold()", "wrongScroll(false)", **LAPTOP)
-        trials.look("wide", f"wrongBegin({MOUSE})", "wrongEnds('periodic', 32)", "wrongColours(false)")
-        trials.look("dark", "wrongColours(true)", prefers_color_scheme="dark")
-        ends = [f"wrongEnds('{kind}', {width})" for kind, width in (("bitonic", 8), ("tree", 16), ("periodic", 8))]
-        trials.look("390 pixels", f"wrongBegin({FINGER})", *ends, "wrongScroll(true)", "wrongPile()", **PHONE)
-        trials.print()
-        trials.refuse()
-        trials.walk_long(long_walk)
-    return trials.deeds, trials.wrong
+def dead_links(page):
+    """The links that lead to no heading of the page, to no file beside it, and to no paper by its number."""
+    for link in re.findall(r'<a [^>]*href="([^"]*)"', page):
+        if not (f'id="{link[1:]}"' in page if link.startswith("#") else
+                link.startswith("https://doi.org/") or (DOCS / link).is_file()):
+            yield f"the link {link} leads nowhere"
+
+
+def tried_on_page(browser, page, folder, schedule, answers):
+    """What is wrong on the page."""
+    by_hand = f"() => wrongByHand({json.dumps(schedule)}, {json.dumps(answers)})"
+    ends = ", ".join(f"() => wrongEnds('{kind}', {width})" for kind, width in (("bitonic", 8), ("tree", 16)))
+    trials = (
+        (page, WIDE, f"...each(DEEDS), wrongStairs, ...each(LOADS), wrongLoads, wrongExtras, wrongHurry, {by_hand}, "
+                     "wrongPile, wrongSaved"),
+        (page, LAPTOP, "wrongFold, () => wrongScroll(false)"),
+        (page, WIDE, f"() => wrongBegin({MOUSE}), () => wrongEnds('periodic', 32), () => wrongColours(false)"),
+        (page, WIDE, "() => wrongColours(true)", DARK),
+        (page, PHONE, f"() => wrongBegin({FINGER}), {ends}, () => wrongScroll(true), wrongPile"),
+        # What is so on paper is so in this frame.
+        (page.replace("@media print", "@media all"), SHEET, "() => wrongPrint(5), () => wrongPrint(6)"),
+        (NONE + page, WIDE, "wrongWithout"),
+    )
+    wrong = list(dead_links(page))
+    for trial in trials:
+        wrong += wrong_in(browser, folder, *trial)
+    return wrong

@@ -21,6 +21,8 @@ DEFINED = re.compile(
     rf"^(?:abbrev |unfoldable |pub )*(?:(?:record|data) ({NAME})|({NAME}) :).*\n(?: .*\n|\n(?= ))*", re.M
 )
 PART = re.compile(rf"^ +(?:pub )?({NAME}) :", re.M)
+# A lemma in a block of several, with what they share at its head.
+IN_BLOCK = re.compile(rf"^ +(?:pub )?({NAME}) :.*\n(?: +unfolding .*\n)? +\1(?![\w'-])", re.M)
 # Definitions that name one another stand indented.
 MUTUAL = re.compile(r"^(?:abbrev |unfoldable )?mutual\n((?:  .*\n|\n)+)", re.M)
 
@@ -35,8 +37,8 @@ class Sources:
     """What stands in the sources: each thing with its parts, and all words."""
 
     def __init__(self):
-        # By crate and name: the clauses of a function, the fields, variants and functions of a type, the parts of a
-        # definition, what a module has.
+        # By crate and name, and by file and name: the clauses of a function, the fields, variants and functions of a
+        # type, the parts of a definition, what a module has.
         self.parts = collections.defaultdict(set)
         self.words = set()
         self.by_name = collections.defaultdict(list)
@@ -46,8 +48,9 @@ class Sources:
                 if not name.endswith(PAGES):
                     path = pathlib.Path(folder, name)
                     self.read(path, path.relative_to(ROOT).parts)
-        for (_, name), parts in self.parts.items():
-            self.by_name[name].append(parts)
+        for (where, name), parts in self.parts.items():
+            if not isinstance(where, pathlib.Path):
+                self.by_name[name].append(parts)
 
     def read(self, path, place):
         """Reads a file: its words, and what it has if it is a source."""
@@ -55,12 +58,13 @@ class Sources:
         self.words |= {path.name, path.stem, *re.findall(r"\w+", text)}
         # The Rust crate counts as a crate.
         crate = place[1] if place[0] in ("crates", "bindings") else None
-        if path.suffix in (".rt", ".rs") and crate:
-            self.code(crate, path.stem, text)
-        elif path.suffix == ".antt":
-            self.definitions(crate, text)
+        for where in (crate, path) if crate else ():
+            if path.suffix in (".rt", ".rs"):
+                self.code(where, path.stem, text)
+            elif path.suffix == ".antt":
+                self.definitions(where, text)
 
-    def code(self, crate, module, text):
+    def code(self, where, module, text):
         """Reads the functions, types, constants and modules of a source."""
         text = re.sub(r"^ *//.*\n", "", text, flags=re.M)
         for found in FUNCTION.finditer(text):
@@ -68,21 +72,23 @@ class Sources:
             clauses = set(CLAUSE.findall(text[found.end() : end.end() if end else len(text)]))
             owners = OWNER.findall(text[: found.start()]) if found[1] else []
             for name in (found[2], f"{module}::{found[2]}", *(f"{owner}::{found[2]}" for owner in owners[-1:])):
-                self.parts[crate, name] |= clauses
-            self.parts[crate, owners[-1] if owners else module].add(found[2])
+                self.parts[where, name] |= clauses
+            self.parts[where, owners[-1] if owners else module].add(found[2])
         for found in TYPE.finditer(text):
-            self.parts[crate, found[1]] |= set(MEMBER.findall(found[0]))
-            self.parts[crate, module].add(found[1])
+            self.parts[where, found[1]] |= set(MEMBER.findall(found[0]))
+            self.parts[where, module].add(found[1])
         for name in ITEM.findall(text):
-            self.parts[crate, name] |= set()
-            self.parts[crate, module].add(name)
+            self.parts[where, name] |= set()
+            self.parts[where, module].add(name)
 
-    def definitions(self, crate, text):
+    def definitions(self, where, text):
         """Reads the definitions of specs/, and the lemmas of proofs/."""
         text = re.sub(r"^ *--.*\n", "", text, flags=re.M)
         text = MUTUAL.sub(lambda block: re.sub(r"^  ", "", block[1], flags=re.M), text)
         for found in DEFINED.finditer(text):
-            self.parts[crate, found[1] or found[2]] |= set(PART.findall(found[0])) if found[1] else set()
+            self.parts[where, found[1] or found[2]] |= set(PART.findall(found[0])) if found[1] else set()
+        for name in IN_BLOCK.findall(text) if isinstance(where, pathlib.Path) else ():
+            self.parts[where, name] |= set()
 
     def parts_of(self, crate, name):
         """The parts of a thing, of this crate if it has one, or nothing."""
@@ -161,9 +167,8 @@ class Page:
         return self
 
 
-def in_pages():
+def in_pages(sources):
     """What the pages of the repository cite."""
-    sources = Sources()
     for folder, below, names in os.walk(ROOT):
         below[:] = sorted(set(below) - BUILT)
         for name in names:

@@ -1,11 +1,12 @@
-//! The peers of the jobs that read CSV.
+//! A batch as CSV, and what is printed of it.
 
+use crate::network::Network;
 use crate::walks::{Floor, Worker};
 use csv::{ByteRecord, Reader, ReaderBuilder};
 use indexmap::IndexSet;
 use std::fmt::Write as _;
+use std::fs;
 use std::io::{self, Stdin};
-use std::sync::atomic::{AtomicU64, Ordering};
 
 pub type Refused = String;
 
@@ -77,55 +78,14 @@ fn read_batch(entries: u64) -> Result<Vec<Epoch>, Refused> {
     Ok(epochs)
 }
 
-/// The tree of width 2: a balancer and two exits.
-#[derive(Default)]
-struct Tree {
-    balancer: AtomicU64,
-    exits: [AtomicU64; 2],
-}
-
-impl Tree {
-    fn walk(&self) -> u64 {
-        let exit = self.balancer.fetch_add(1, Ordering::AcqRel) % 2;
-        exit + 2 * self.exits[exit as usize].fetch_add(1, Ordering::AcqRel)
-    }
-}
-
-fn put_epoch(text: &mut String, epoch: &Epoch) {
-    let tree = Tree::default();
-    let mut holders = vec![0; epoch.clients.len()];
-    for client in &epoch.clients {
-        holders[tree.walk() as usize] = client.id;
-    }
-    writeln!(text, "epoch {} clients {}", epoch.number, holders.len()).unwrap();
-    for (exit, count) in tree.exits.iter().enumerate() {
-        writeln!(text, "exit {exit} count {}", count.load(Ordering::Acquire)).unwrap();
-    }
-    for (name, client) in holders.iter().enumerate() {
-        writeln!(text, "name {name} client {client}").unwrap();
-    }
-}
-
 fn put_end(text: &mut String, epochs: &[Epoch]) {
     let grants: usize = epochs.iter().map(|epoch| epoch.clients.len()).sum();
     writeln!(text, "end epochs {} grants {grants}", epochs.len()).unwrap();
 }
 
-pub fn run() -> Result<String, Refused> {
-    let epochs = read_batch(1)?;
-    let mut text = String::from("network tree width 2 balancers 1 depth 1\n");
-    for epoch in &epochs {
-        put_epoch(&mut text, epoch);
-    }
-    put_end(&mut text, &epochs);
-    Ok(text)
-}
-
-// ---- walk
-
-fn put_walked(text: &mut String, floor: &Floor, width: usize, epoch: &Epoch, holders: &[u64]) {
+fn put_walked(text: &mut String, floor: &Floor, epoch: &Epoch, holders: &[u64]) {
     writeln!(text, "epoch {} clients {}", epoch.number, holders.len()).unwrap();
-    for exit in 0..width {
+    for exit in 0..floor.network.width {
         writeln!(text, "exit {exit} count {}", floor.count(exit)).unwrap();
     }
     for (name, client) in holders.iter().enumerate() {
@@ -140,22 +100,22 @@ fn put_grants(text: &mut String, epoch: &Epoch, holders: &[u64]) {
 }
 
 pub fn walk(words: &[String]) -> Result<String, Refused> {
-    let [kind, width, hand, form] = words else {
-        return Err("plain walk NETWORK WIDTH HAND FORM".to_string());
+    let [wiring, hand, form] = words else {
+        return Err("plain WIRING HAND FORM".to_string());
     };
-    let size = |word: &String| word.parse::<usize>().map_err(|e| e.to_string());
-    let (width, hand) = (size(width)?, size(hand)?);
-    let floor = Floor::new(kind, width);
+    let wiring = fs::read_to_string(wiring).map_err(|e| e.to_string())?;
+    let hand = hand.parse::<usize>().map_err(|e| e.to_string())?;
+    let floor = Floor::new(Network::read(&wiring).ok_or("no network")?);
     let mut worker = Worker::new(&floor, hand);
-    let epochs = read_batch(floor.entries() as u64)?;
+    let epochs = read_batch(floor.network.entries as u64)?;
     let is_list = form == "grants";
-    let mut text = if is_list { "epoch,client,name\n".to_string() } else { floor.heading(kind) };
+    let mut text = if is_list { "epoch,client,name\n".to_string() } else { floor.network.heading.clone() };
     for epoch in &epochs {
         let holders = worker.run(&floor, epoch);
         if is_list {
             put_grants(&mut text, epoch, &holders);
         } else {
-            put_walked(&mut text, &floor, width, epoch, &holders);
+            put_walked(&mut text, &floor, epoch, &holders);
         }
     }
     if !is_list {

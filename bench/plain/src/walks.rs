@@ -1,24 +1,8 @@
 //! Runs of a batch, each token by single steps.
 
-use crate::network::{End, Network, bitonic_network, heading, periodic_network};
+use crate::network::{End, Network};
 use crate::reading::{Client, Epoch};
 use std::sync::atomic::{AtomicU64, Ordering};
-
-/// The counting tree: leaf by leaf each exit's wire, by the bits of its number from the lowest.
-fn tree_network(width: usize) -> Network {
-    let mut network = Network::new(1, width - 1);
-    let mut leaves = vec![(0, 0, 1)];
-    while let Some((wire, exit, stride)) = leaves.pop() {
-        if stride == width {
-            network.ends[wire] = End::Exit(exit);
-        } else {
-            let (first, second) = network.fork(wire);
-            leaves.push((second, exit + stride, 2 * stride));
-            leaves.push((first, exit, 2 * stride));
-        }
-    }
-    network
-}
 
 #[derive(Clone, Copy, Default)]
 struct Line {
@@ -85,29 +69,15 @@ impl Yard {
 
 /// A network with its words.
 pub struct Floor {
-    network: Network,
-    width: usize,
+    pub network: Network,
     words: Vec<AtomicU64>,
 }
 
 impl Floor {
-    pub fn new(kind: &str, width: usize) -> Floor {
-        let network = match kind {
-            "tree" => tree_network(width),
-            "periodic" => periodic_network(width),
-            _ => bitonic_network(width),
-        };
-        let count = network.entries + network.balancers() + width;
+    pub fn new(network: Network) -> Floor {
+        let count = network.entries + network.balancers() + network.width;
         let words = (0..count).map(|_| AtomicU64::new(0)).collect();
-        Floor { network, width, words }
-    }
-
-    pub fn heading(&self, kind: &str) -> String {
-        heading(kind, self.width, &self.network)
-    }
-
-    pub fn entries(&self) -> usize {
-        self.network.entries
+        Floor { network, words }
     }
 
     pub fn count(&self, exit: usize) -> u64 {
@@ -123,17 +93,16 @@ impl Floor {
         let entries = self.network.entries;
         while let Some(wire) = yard.lowest() {
             let token = yard.pop(wire);
-            match self.network.ends[wire] {
+            match &self.network.ends[wire] {
                 End::Balancer(balancer) => {
                     let output = self.add(entries + balancer) as usize % 2;
                     yard.push(token, entries + 2 * balancer + output);
                 }
                 End::Exit(exit) => {
                     let visit = self.add(entries + self.network.balancers() + exit);
-                    grants.push((yard.clients[token as usize], exit as u64 + self.width as u64 * visit));
+                    grants.push((yard.clients[token as usize], *exit as u64 + self.network.width as u64 * visit));
                     yard.free.push(token);
                 }
-                End::Loose => unreachable!("each wire ends somewhere"),
             }
         }
     }
