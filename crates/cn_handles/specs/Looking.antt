@@ -17,7 +17,7 @@ use Rattle.cn_handles.specs.declared.places.taken.Taken.{Taken}
 
 -- a lane of this floor with nobody inside, and a place there
 abbrev pub IsTakenOf : FloorValue → Taken × Place → Type 0
-IsTakenOf floor t = IsBack floor t.0.lane × IsPlaceOf floor t.1
+IsTakenOf floor t = IsBack floor t.0.lane.value × IsPlaceOf floor t.1
 
 -- the row with this number was not made; or has as many readers as it can have, or owners; or was turned by other
 -- threads for centuries
