@@ -17,7 +17,7 @@ use Rattle.cn_handles.specs.declared.places.taken.Taken.{Taken}
 
 -- a lane of this floor with nobody inside, and a place there
 abbrev pub IsTakenOf : FloorValue → Taken × Place → Type 0
-IsTakenOf floor t = IsBack floor t.0.lane × IsPlaceOf floor t.1
+IsTakenOf floor t = IsBack floor t.0.lane.value × IsPlaceOf floor t.1
 
 -- the row with this number was not made; or has as many readers as it can have, or owners; or was turned by other
 -- threads for centuries
@@ -25,10 +25,10 @@ abbrev pub IsNoRow : ℕ → Unread → Type 0
 IsNoRow at s = (s.at ≡ at) × ((s.word % 4 ≢ 1) ⊎ ((1073741823 ≤ s.word / 4) ⊎ ((s.full ≡ true)
     ⊎ (s.looks ≡ MOST_LOOKS))))
 
--- none of the places of the rows from this one on, below another, was counted in this state
-pub record IsEmptyRow (row to state : ℕ) (e : EmptyRow) : Type 0 where
+-- none of the places of the rows from this one on was counted in this state
+pub record IsEmptyRow (row state : ℕ) (e : EmptyRow) : Type 0 where
   pub is_it : (e.row ≡ row) × (e.state ≡ state)
-  pub rows : (0 < e.rows) × (row + e.rows ≤ to)
+  pub rows : (0 < e.rows) × (row + e.rows ≤ 26)
   pub none : e.number ≡ 0
 
 -- none of so many places from here on was counted in this state
@@ -49,25 +49,22 @@ pub record IsNewSearch (state earlier : ℕ) (s : Search) : Type 0 where
   pub on : s.on ≡ record { row = 0; place = 0 }
   pub found : s.found ≡ 0
   pub after : s.earlier ≡ earlier
-  pub rows : s.unmade.from ≤ 26
 
 -- the same search, further on, which found so many more
 pub record GoesOn (more : ℕ) (a b : Search) : Type 0 where
   pub state : b.state ≡ a.state
   pub found : b.found ≡ a.found + more
   pub returns : b.returns ≡ a.returns
-  pub rows : b.unmade ≡ a.unmade
   pub earlier : b.earlier ≡ a.earlier
 
--- a search has not passed the rows that were made when it began
-pub record IsWithin (s : Search) : Type 0 where
-  pub on : s.on.row ≤ s.unmade.from
-  pub few : s.unmade.from ≤ 26
+-- a search is in a row, or has passed all
+abbrev pub IsWithin : Search → Type 0
+IsWithin s = s.on.row ≤ 26
 
--- a search for lanes went through all rows that were made when it began
+-- a search for lanes went through all rows
 pub record IsWhole (s : Search) : Type 0 where
   pub lanes : s.state ≡ 1
-  pub rows : s.on.row ≡ s.unmade.from
+  pub rows : s.on.row ≡ 26
 
 -- why no lane is taken: a whole search found none, and no lane was handed back meanwhile; or so it was for centuries
 abbrev pub IsNoneBack : NoneBack → Type 0

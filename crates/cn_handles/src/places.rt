@@ -130,18 +130,20 @@ impl FloorWithPlaces {
     fn add(&self, place: &Place, state: u64)
         requires { IsPlaceOf self.now place.now }
     {
-        let spot = place.spot();
-        self.slots[spot.row].counts.of(state).fetch_add(1, SeqCst);
-        place.row().add(spot.place, state);
+        let (spot, row) = (place.spot(), place.row());
+        let number = self.slots[spot.row].counts.of(state);
+        number.fetch_add(row.part(spot.place), SeqCst);
+        row.add(spot.place, state);
     }
 
     /// Counts a place less in this state.
     fn subtract(&self, place: &Place, state: u64)
         requires { IsPlaceOf self.now place.now }
     {
-        let spot = place.spot();
-        place.row().subtract(spot.place, state);
-        self.slots[spot.row].counts.of(state).fetch_sub(1, SeqCst);
+        let (spot, row) = (place.spot(), place.row());
+        row.subtract(spot.place, state);
+        let number = self.slots[spot.row].counts.of(state);
+        number.fetch_sub(row.part(spot.place), SeqCst);
     }
 
     /// Lets a place go, for another lane.

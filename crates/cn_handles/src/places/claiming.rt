@@ -11,10 +11,8 @@ use crate::places::reading_rows::{is_free, make_row};
 use crate::places::row::{Row, SharedRow};
 use crate::places::searches::{MOST_SEARCHES, NoneBack};
 use crate::places::taken::Taken;
-use counted_slot::FREE;
 use std::alloc::{AllocError, Global};
 use std::sync::Arc;
-use std::sync::atomic::Ordering::SeqCst;
 
 /// How many places the first row has.
 const FIRST_ROW: usize = 16;
@@ -52,12 +50,7 @@ impl FloorWithPlaces {
         if is_free(self, at) {
             let size = FIRST_ROW << at;
             let row = Arc::new(alloc, Row::new(alloc, &self.floor, size)?)?;
-            let free = self.slots[at].counts.of(FREE);
-            // They are counted before anyone can claim one.
-            free.fetch_add(size as u64, SeqCst);
-            if !make_row(self, at, SharedRow { row }) {
-                free.fetch_sub(size as u64, SeqCst);
-            }
+            make_row(self, at, SharedRow { row });
         }
         Ok(())
     }

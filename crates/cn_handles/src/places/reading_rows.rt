@@ -6,11 +6,12 @@ ghost use Rattle.std.specs.Prelude.{◌≡◌, ◌<◌, ◌≤◌, IfErr, IfOk, 
 ghost use Rattle.cn_handles.specs.Looking.{IsNoRow};
 ghost use Rattle.cn_handles.specs.Placing.{IsPlaceOf, IsSharedRowOf, row_size};
 
+use crate::places::FloorWithPlaces;
 use crate::places::place::{Place, Spot};
-use crate::places::row::{Counts, Row, SharedRow};
-use crate::places::{FloorWithPlaces, ROWS};
+use crate::places::row::{Counts, Row, SharedRow, parts};
 use cn_floor::Floor;
 use counted_slot::{Counted, FREE, MOST_READERS, ONE_READER, PRESENT, TAKEN};
+use std::sync::atomic::Ordering::SeqCst;
 
 /// Space for a row of places, and how many of these are in which state. Nobody writes a row that is made (`PRESENT`).
 #[derive(Drop)]
@@ -115,33 +116,6 @@ pub(crate) fn read_row(floor: &FloorWithPlaces, at: usize) -> Result<ReadRow, Un
     })
 }
 
-/// The first of the rows that were not made, as far as the last row.
-#[derive(Drop)]
-pub(crate) struct Unmade {
-    from: usize,
-}
-
-impl Unmade {
-    /// Looks from the first row on: a row is made only if that before it was, so none is made after one that is free.
-    pub(crate) fn of(floor: &FloorWithPlaces) -> Unmade
-        ensures { result.from ≤ 26 }
-    {
-        for from in 0..ROWS {
-            if is_free(floor, from) {
-                return Unmade { from };
-            }
-        }
-        Unmade { from: ROWS }
-    }
-
-    /// Its number.
-    pub(crate) fn from(&self) -> usize
-        ensures { result ≡ self.now.from }
-    {
-        self.from
-    }
-}
-
 /// Whether a row was not made.
 pub(crate) fn is_free(floor: &FloorWithPlaces, at: usize) -> bool
     requires { at < 26 }
@@ -149,17 +123,20 @@ pub(crate) fn is_free(floor: &FloorWithPlaces, at: usize) -> bool
     floor.slot(at).row.load() == FREE
 }
 
-/// Makes a row, unless another thread made it. Returns whether it did.
-pub(crate) fn make_row(floor: &FloorWithPlaces, at: usize, shared: SharedRow) -> bool
+/// Makes a row, unless another thread made it.
+pub(crate) fn make_row(floor: &FloorWithPlaces, at: usize, shared: SharedRow)
     requires at { at < 26 }
     requires row { IsSharedRowOf floor.now shared }
     requires size { length (arc_value shared.row).places.items ≡ row_size at }
 {
-    let (found, claim) = floor.slot(at).row.turn(FREE, TAKEN);
+    let slot = floor.slot(at);
+    let (found, claim) = slot.row.turn(FREE, TAKEN);
     if found == FREE {
+        // They are counted before anyone can claim one.
+        let free = parts(shared.row.places.len());
+        slot.counts.of(FREE).fetch_add(free, SeqCst);
         let _ = claim.put(Some(shared), PRESENT);
     } else {
         claim.done();
     }
-    found == FREE
 }

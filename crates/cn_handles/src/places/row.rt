@@ -13,7 +13,8 @@ use std::sync::atomic::AtomicU64;
 use std::sync::atomic::Ordering::SeqCst;
 
 /// How many places of a group have a lane that is back, and how many are free, and no fewer: a place is counted before
-/// it comes into the state, and until it has left it. A group of 64 has a bit for each place in place of the number.
+/// it comes into the state, and until it has left it. A group of 64 places, or a row of as many at most, has a bit for
+/// each place in place of the number.
 #[derive(Drop)]
 pub(crate) struct Counts {
     back: AtomicU64,
@@ -54,9 +55,18 @@ pub(crate) fn group_size(level: u32) -> usize
     }
 }
 
-/// What a place counts in a group of 64^level: one, or its bit.
-fn part(level: u32, at: usize) -> u64 {
-    if level == 1 { 1 << (at % 64) } else { 1 }
+/// What a place counts in a group of so many: its bit, if they are 64 at most, or one.
+fn part(size: usize, at: usize) -> u64 {
+    if size <= 64 { 1 << (at % 64) } else { 1 }
+}
+
+/// What all places of a row of so many count there.
+pub(crate) fn parts(size: usize) -> u64 {
+    if size <= 64 {
+        u64::MAX >> (64 - size.max(1))
+    } else {
+        size as u64
+    }
 }
 
 /// How many places a row has at most.
@@ -113,6 +123,11 @@ impl Row {
         }
     }
 
+    /// What a place counts in the whole row.
+    pub(crate) fn part(&self, at: usize) -> u64 {
+        part(self.places.len(), at)
+    }
+
     /// The number of places of a group that are in this state.
     pub(crate) fn count(&self, group: usize, state: u64) -> &AtomicU64
         requires { group < length self.now.groups.items }
@@ -144,7 +159,8 @@ impl Row {
     {
         for level in 1..LEVELS {
             if let Some(group) = self.group(level, at) {
-                self.count(group, state).fetch_add(part(level, at), SeqCst);
+                self.count(group, state)
+                    .fetch_add(part(group_size(level), at), SeqCst);
             }
         }
     }
@@ -156,7 +172,8 @@ impl Row {
     {
         for level in 1..LEVELS {
             if let Some(group) = self.group(level, at) {
-                self.count(group, state).fetch_sub(part(level, at), SeqCst);
+                self.count(group, state)
+                    .fetch_sub(part(group_size(level), at), SeqCst);
             }
         }
     }

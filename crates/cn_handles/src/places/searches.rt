@@ -6,11 +6,11 @@ ghost use Rattle.std.specs.Prelude.{◌≡◌, ◌+◌, ◌^◌, ◌<◌, ◌≤
 ghost use Rattle.cn_handles.specs.Looking.{Grows, IsEmptyGroup, IsEmptyRow, IsNewSearch, IsNoRow, IsNoneBack, IsWhole};
 ghost use Rattle.cn_handles.specs.Placing.{IsNotIn};
 
-use crate::places::FloorWithPlaces;
 use crate::places::place::Spot;
-use crate::places::reading_rows::{ReadRow, Unmade, Unread};
-use crate::places::row::{Row, group_size};
+use crate::places::reading_rows::{ReadRow, Unread};
+use crate::places::row::{Counts, Row, group_size};
 use crate::places::turns::Unturned;
+use crate::places::{FloorWithPlaces, ROWS};
 use std::sync::atomic::Ordering::SeqCst;
 
 /// How many searches are in vain at most because lanes were handed back meanwhile: for centuries.
@@ -38,13 +38,13 @@ pub(crate) struct EmptyGroup {
 }
 
 impl EmptyRow {
-    /// The rows from this one on, below another, as far as none was counted there.
-    pub(crate) fn of(floor: &FloorWithPlaces, row: usize, to: usize, state: u64) -> Option<EmptyRow>
-        requires { (row ≤ to) × (to ≤ 26) }
-        ensures { IfSome result (IsEmptyRow row to state) }
+    /// The rows from this one on, as far as none was counted there: of a row that was not made, none was.
+    pub(crate) fn of(floor: &FloorWithPlaces, row: usize, state: u64) -> Option<EmptyRow>
+        requires { row ≤ 26 }
+        ensures { IfSome result (IsEmptyRow row state) }
     {
         let (mut rows, mut number) = (0, 0);
-        for at in row..to {
+        for at in row..ROWS {
             let counted = floor.slot(at).counts.of(state).load(SeqCst);
             if counted != 0 {
                 break;
@@ -63,23 +63,28 @@ impl EmptyRow {
 }
 
 impl EmptyGroup {
-    /// The places from this one on, as far as no group is counted and no bit is there.
-    pub(crate) fn of(read: &ReadRow, first: usize, state: u64) -> Option<EmptyGroup>
+    /// The places from this one on, as far as no group is counted and no bit is there, in a row with these counts.
+    pub(crate) fn of(
+        read: &ReadRow,
+        counts: &Counts,
+        first: usize,
+        state: u64,
+    ) -> Option<EmptyGroup>
         requires few { length (arc_value read.now.shared.row).places.items ≤ 1099511627776 }
         requires first { first < length (arc_value read.now.shared.row).places.items }
         ensures { IfSome result (IsEmptyGroup (record { row = read.now.at; place = first }) state) }
     {
         let row = read.row();
-        if row.places.len() <= 64 {
-            return None;
-        }
         let none = EmptyGroup {
             first: read.spot(first),
             size: 0,
             state,
             number: 0,
         };
-        let all = none.with_groups(row, 2).with_groups(row, 1).with_bits(row);
+        let all = none
+            .with_groups(row, 2)
+            .with_groups(row, 1)
+            .with_bits(row, counts);
         if all.size == 0 { None } else { Some(all) }
     }
 
@@ -107,8 +112,9 @@ impl EmptyGroup {
         }
     }
 
-    /// The same with the places that follow in a group of 64, as far as they have no bit.
-    fn with_bits(self, row: &Row) -> EmptyGroup
+    /// The same with the places that follow in a group of 64, or in a row with these counts that is no larger, as far
+    /// as they have no bit.
+    fn with_bits(self, row: &Row, counts: &Counts) -> EmptyGroup
         requires few { length row.now.places.items ≤ 1099511627776 }
         requires none { (self.number ≡ 0) × (self.first.place + self.size < 2 ^ 62) }
         ensures { Grows 64 self result }
@@ -117,10 +123,11 @@ impl EmptyGroup {
         if at >= row.places.len() {
             return self;
         }
-        let Some(group) = row.group(1, at) else {
-            return self;
+        let word = match row.group(1, at) {
+            Some(group) => row.count(group, self.state),
+            None => counts.of(self.state),
         };
-        let bits = row.count(group, self.state).load(SeqCst) >> (at % 64);
+        let bits = word.load(SeqCst) >> (at % 64);
         let size = (bits.trailing_zeros() as usize).min(64 - at % 64);
         let number = if size == 0 { 0 } else { bits << (64 - size) };
         if number != 0 {
@@ -141,9 +148,8 @@ pub(crate) struct Search {
     /// Where it goes on, and how many places it found.
     on: Spot,
     found: u64,
-    /// How many hand-backs had ended when it began, and which rows were not made then: no lane of these is there.
+    /// How many hand-backs had ended when it began.
     returns: u64,
-    unmade: Unmade,
     /// How many searches in vain went before it.
     earlier: u64,
 }
@@ -167,16 +173,8 @@ impl Search {
             on: Spot { row: 0, place: 0 },
             found: 0,
             returns: floor.returns().load(SeqCst),
-            unmade: Unmade::of(floor),
             earlier: 0,
         }
-    }
-
-    /// How many rows it goes through.
-    pub(crate) fn rows(&self) -> usize
-        ensures { result ≡ self.now.unmade.from }
-    {
-        self.unmade.from()
     }
 
     /// For what state.
@@ -229,8 +227,7 @@ impl Search {
 
     /// Passes rows.
     pub(crate) fn pass_rows(mut self, none: EmptyRow) -> Search
-        requires none { IsEmptyRow self.on.row self.unmade.from self.state none }
-        requires few { self.unmade.from ≤ 26 }
+        requires { IsEmptyRow self.on.row self.state none }
         ensures { result ≡ record self { on = record { row = self.on.row + none.rows; place = 0 } } }
     {
         self.on.row += none.rows;
@@ -288,7 +285,6 @@ impl Search {
             on: Spot { row: 0, place: 0 },
             found: 0,
             returns: now,
-            unmade: Unmade::of(floor),
             earlier: self.earlier + 1,
         })
     }

@@ -5,9 +5,10 @@ ghost use Rattle.std.specs.Prelude.{◌≡◌, ◌≤◌, ◌<◌, IfErr, IfOk, 
 ghost use Rattle.cn_handles.specs.Looking.{GoesOn, IsNewSearch, IsTakenOf, IsWithin};
 ghost use Rattle.cn_handles.specs.Placing.{IsFound, IsPlaceOf, IsSharedRowOf};
 
-use super::FloorWithPlaces;
+use super::{FloorWithPlaces, ROWS};
 use crate::places::place::Place;
 use crate::places::reading_rows::{ReadRow, read_row};
+use crate::places::row::Counts;
 use crate::places::searches::{EmptyGroup, EmptyRow, MOST_JOINS, Search};
 use crate::places::taken::Taken;
 use crate::places::turns::{Found, take_from};
@@ -21,6 +22,7 @@ use counted_slot::{FREE, PRESENT};
 /// The search, if there is none.
 fn search_row(
     read: &ReadRow,
+    counts: &Counts,
     floor: &Floor<'static>,
     mut search: Search,
 ) -> Result<(usize, Found, Search), Search>
@@ -39,7 +41,7 @@ fn search_row(
         if at >= places {
             return Err(search);
         }
-        if let Some(none) = EmptyGroup::of(read, at, search.state()) {
+        if let Some(none) = EmptyGroup::of(read, counts, at, search.state()) {
             search = search.pass_group(none);
             continue;
         }
@@ -68,20 +70,19 @@ impl FloorWithPlaces {
         requires few { (search.found < MOST_JOINS) × IsWithin search }
         ensures found { IfOk result (λ r. IsFound self.now search.state r.0 × IsPlaceOf self.now r.1) }
         ensures ok { IfOk result (λ r. GoesOn 1 search r.2 × IsWithin r.2) }
-        ensures err { IfErr result (λ s. GoesOn 0 search s × (s.on.row ≡ s.unmade.from)) }
+        ensures err { IfErr result (λ s. GoesOn 0 search s × (s.on.row ≡ 26)) }
     {
-        let rows = search.rows();
-        for passed in search.on().row..rows {
+        for passed in search.on().row..ROWS {
             let at = search.on().row;
-            if let Some(none) = EmptyRow::of(self, at, rows, search.state()) {
+            if let Some(none) = EmptyRow::of(self, at, search.state()) {
                 search = search.pass_rows(none);
                 continue;
             }
-            if at >= rows {
+            if at >= ROWS {
                 break;
             }
             match read_row(self, at) {
-                Ok(row) => match search_row(&row, &self.floor, search) {
+                Ok(row) => match search_row(&row, &self.slot(at).counts, &self.floor, search) {
                     Ok((place, found, next)) => {
                         let place = row.into_place(&self.floor, place);
                         self.subtract(&place, next.state());
@@ -104,7 +105,7 @@ impl FloorWithPlaces {
         requires few { (search.found < MOST_JOINS) × IsWithin search }
         ensures taken { IfOk result (λ r. IsTakenOf self.now (r.0, r.1)) }
         ensures ok { IfOk result (λ r. GoesOn 1 search r.2 × IsWithin r.2) }
-        ensures err { IfErr result (λ s. GoesOn 0 search s × (s.on.row ≡ s.unmade.from)) }
+        ensures err { IfErr result (λ s. GoesOn 0 search s × (s.on.row ≡ 26)) }
     {
         let (found, place, next) = self.search(search)?;
         Ok((found.lane(&self.floor), place, next))

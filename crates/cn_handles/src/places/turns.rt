@@ -75,7 +75,7 @@ impl Found {
     /// The lane that was handed back to its place.
     pub(crate) fn lane(self, floor: &Floor<'static>) -> Taken
         requires { IsFound floor.now 1 self }
-        ensures { IsBack floor.now result.lane }
+        ensures { IsBack floor.now result.lane.value }
     {
         let Found {
             state: _state,

@@ -99,9 +99,9 @@ impl HeldLane {
     /// back again.
     fn join(self, other: Taken, other_place: Place) -> Result<HeldLane, (HeldLane, Handed)>
         requires { IsTakenOf self.home (other, other_place) }
-        ensures ok { IfOk result (λ r. IsJoined self r other.lane) }
-        ensures err { IfErr result (λ r. (r.0 ≡ self) × EndsSomewhere other.lane r.1) }
-        ensures room { IfErr result (λ r. self.room < length other.lane.view.grants) }
+        ensures ok { IfOk result (λ r. IsJoined self r other.lane.value) }
+        ensures err { IfErr result (λ r. (r.0 ≡ self) × EndsSomewhere other.lane.value r.1) }
+        ensures room { IfErr result (λ r. self.room < length other.lane.value.view.grants) }
     {
         let HeldLane {
             floor,

@@ -11,7 +11,7 @@ loop-joined-preserved c =
       (
         Some c.loop-joined.lane,
         before,
-        (c.loop-joined.lane, c.in-Ok-join.after, c.in-Ok.found.0.lane, refl, refl, c.in-Ok-join.ensures.ok),
+        (c.loop-joined.lane, c.in-Ok-join.after, c.in-Ok.found.0.lane.value, refl, refl, c.in-Ok-join.ensures.ok),
       ),
       more,
       next,
