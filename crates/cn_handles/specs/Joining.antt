@@ -15,7 +15,6 @@ use Rattle.cn_handles.specs.declared.handles.held_lane.returning.TakeStop.TheVar
 use Rattle.cn_handles.specs.declared.handles.refusal.Refusal.{Refusal}
 use Rattle.cn_handles.specs.declared.handles.refusal.Refusal.TheVariants as why
 use Rattle.cn_handles.specs.declared.places.searches.Search.{Search}
-use Rattle.cn_handles.specs.declared.places.searches.TheConstants.{MOST_JOINS}
 
 -- where a lane ends that is handed back: it is at its place; or it is here, in its box, since its place was not its own
 abbrev pub EndsSomewhere : LaneValue → Handed → Type 0
@@ -37,7 +36,7 @@ refusal_of (Memory handed) = why.Memory
 
 -- each lane was taken in that a search found which went through all places; or lanes were found for centuries
 abbrev pub AreAllIn : Option LaneValue → Option LaneValue → Search → Type 0
-AreAllIn old new s = (n : ℕ) × JoinsTimes n old new × (n ≡ s.found) × (IsWhole s ⊎ (s.found ≡ MOST_JOINS))
+AreAllIn old new s = (n : ℕ) × JoinsTimes n old new × (n ≡ s.found) × (IsWhole s ⊎ (s.found ≡ 18446744073709551615))
 
 -- what a call leaves by which no lane came whole: what was seen, or that the floor has as many owners as it can have,
 -- or that lanes with nothing were found for centuries
@@ -45,7 +44,7 @@ abbrev pub StopsTake : TakeStop → Type 0
 StopsTake take.Nothing = ⊤
 StopsTake (take.NothingBack none) = IsNoneBack none
 StopsTake (take.Full full) = ⊤
-StopsTake (take.Late gone) = gone.number ≡ MOST_JOINS
+StopsTake (take.Late gone) = gone.number ≡ 18446744073709551615
 
 -- the refusal by which such a call stops
 abbrev pub refusal_of_take : TakeStop → Refusal

@@ -6,8 +6,6 @@ use Rattle.cn_handles.specs.Returns.{IsBack}
 use Rattle.cn_handles.specs.declared.places.place.Place.{Place}
 use Rattle.cn_handles.specs.declared.places.place.Spot.{Spot}
 use Rattle.cn_handles.specs.declared.places.reading_rows.Unread.{Unread}
-use Rattle.cn_handles.specs.declared.places.reading_rows.TheConstants.{MOST_LOOKS}
-use Rattle.cn_handles.specs.declared.places.searches.TheConstants.{MOST_SEARCHES}
 use Rattle.cn_handles.specs.declared.places.searches.EmptyGroup.{EmptyGroup}
 use Rattle.cn_handles.specs.declared.places.searches.EmptyRow.{EmptyRow}
 use Rattle.cn_handles.specs.declared.places.searches.NoneBack.{NoneBack}
@@ -23,7 +21,7 @@ IsTakenOf floor t = IsBack floor t.0.lane.value × IsPlaceOf floor t.1
 -- threads for centuries
 abbrev pub IsNoRow : ℕ → Unread → Type 0
 IsNoRow at s = (s.at ≡ at) × ((s.word % 4 ≢ 1) ⊎ ((1073741823 ≤ s.word / 4) ⊎ ((s.full ≡ true)
-    ⊎ (s.looks ≡ MOST_LOOKS))))
+    ⊎ (s.looks ≡ 18446744073709551615))))
 
 -- none of the places of the rows from this one on was counted in this state
 pub record IsEmptyRow (row state : ℕ) (e : EmptyRow) : Type 0 where
@@ -69,4 +67,4 @@ pub record IsWhole (s : Search) : Type 0 where
 -- why no lane is taken: a whole search found none, and no lane was handed back meanwhile; or so it was for centuries
 abbrev pub IsNoneBack : NoneBack → Type 0
 IsNoneBack (Searched s now) = IsWhole s × (s.found ≡ 0) × (now ≡ s.returns)
-IsNoneBack (Late s) = s.earlier ≡ MOST_SEARCHES
+IsNoneBack (Late s) = s.earlier ≡ 18446744073709551615

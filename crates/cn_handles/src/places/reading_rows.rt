@@ -81,19 +81,18 @@ pub(crate) fn read_row(floor: &FloorWithPlaces, at: usize) -> Result<ReadRow, Un
     ensures err { IfErr result (IsNoRow at) }
 {
     let slot = floor.slot(at);
-    let mut word = slot.row.load();
-    let mut full = false;
+    let mut seen = Unread {
+        at,
+        word: slot.row.load(),
+        looks: 0,
+        full: false,
+    };
     for looks in 0..MOST_LOOKS {
-        if full || word % 4 != PRESENT || word / ONE_READER >= MOST_READERS {
-            return Err(Unread {
-                at,
-                word,
-                looks,
-                full,
-            });
+        if seen.full || seen.word % 4 != PRESENT || seen.word / ONE_READER >= MOST_READERS {
+            return Err(seen);
         }
-        let (found, claim) = slot.row.turn(word, word + ONE_READER);
-        if found == word {
+        let (found, claim) = slot.row.turn(seen.word, seen.word + ONE_READER);
+        if found == seen.word {
             let shared = match claim.get() {
                 Some(shared) => shared.another_owner().ok(),
                 None => None,
@@ -101,19 +100,15 @@ pub(crate) fn read_row(floor: &FloorWithPlaces, at: usize) -> Result<ReadRow, Un
             claim.leave();
             match shared {
                 Some(shared) => return Ok(ReadRow { at, shared }),
-                None => full = true,
+                None => seen.full = true,
             }
         } else {
             claim.done();
         }
-        word = found;
+        seen.looks = looks + 1;
+        seen.word = found;
     }
-    Err(Unread {
-        at,
-        word,
-        looks: MOST_LOOKS,
-        full,
-    })
+    Err(seen)
 }
 
 /// Whether a row was not made.
