@@ -1,5 +1,5 @@
 -- Causes that say why a reader stopped.
-use Rattle.cn_texts.proofs.Common.{◌≡◌, ◌∙◌, ℕ, ap, Bool, false, inl, inr, refl, sym, true}
+use Rattle.cn_texts.proofs.Common.{◌≡◌, ◌∙◌, ℕ, ap, Bool, false, inl, inr, refl, subst, sym, true}
 use Rattle.csv.specs.Reading.{has_failed, reader_source}
 use Rattle.csv.specs.declared.reader.Reader.{Reader}
 use Rattle.cn_texts.specs.Grants.TightList.{IsFlawTold, IsRepeatFlaw, flaw_of, grant_cause_of_fault}
@@ -58,11 +58,7 @@ flaw-told at cause is = record {
 -- a record before has a client or a name twice
 pub repeat-told : {R : Type 0} (failed : R → Bool) (reader : Reader R) (flaw : Flaw) → IsRepeatFlaw flaw
     → IsFlawTold failed reader flaw
-repeat-told failed reader flaw (at, is) = record {
-  at = at;
-  stopped = λ stops. inr (at, is);
-  read = λ n e. absurd (elim is [ inl client ↦ cc (sym client ∙ e) | inr name ↦ cc (sym name ∙ e) ]);
-}
+repeat-told failed reader flaw is = record { at = 0; stopped = λ stops. inr is; read = λ n e. absurd (subst IsRepeatFlaw e is) }
 
 pub end-told : {R : Type 0} (failed : R → Bool) (reader : Reader R) (flaw : Flaw) → has_failed reader ≡ false
     → ((n : ℕ) → flaw ≡ flaws.Read n → ⊥) → IsFlawTold failed reader flaw
