@@ -10,13 +10,11 @@ use Rattle.cn_tables.specs.Table.{Table}
 use Rattle.cn_core.specs.declared.event.Event.{Event}
 use Rattle.cn_core.specs.declared.event.Event.TheVariants.{Enter as EnterEvent, Step as StepEvent}
 use Rattle.cn_ledger.specs.declared.reply.Reply.{Reply}
-use Rattle.cn_ledger.specs.declared.record.EpochRecord.{EpochRecord}
 use Rattle.cn_core.specs.History as core
 use Rattle.cn_core.specs.History.{AreEpochs, Carried, HasOneHolder, IsHistory, answer_to, carried_by, is_accepted}
 use Rattle.cn_core.proofs.CallerLemmas.{one-holder-after}
 use Rattle.cn_ledger.specs.declared.answer.Answer.{Answer}
 use Rattle.cn_ledger.specs.declared.answer.Answer.TheVariants.{Replied, Turned, TurnRefused}
-use Rattle.cn_ledger.specs.declared.answer.TurnFault.{TurnFault}
 use Rattle.cn_ledger.specs.declared.answer.TurnFault.TheVariants.{NotQuiet, Memory}
 use Rattle.cn_ledger.specs.declared.command.Command.{Command}
 use Rattle.cn_ledger.specs.declared.command.Command.TheVariants.{Enter, Step, Turn}
@@ -163,32 +161,45 @@ module _ (network : Network) (is : IsNetwork network) where
   kept_by-next None h command commands answer answers = refl
   kept_by-next (Some earlier) h command commands answer answers = refl
 
-  -- answers that say the same leave the same, if what they leave depends on no record and no refused turn
-  leaves-same : {X : Type 0} (f : Answer → X) → ((r s : EpochRecord) → f (Turned r) ≡ f (Turned s))
-      → ((fault other : TurnFault) → f (TurnRefused fault) ≡ f (TurnRefused other))
-      → (answer other : Answer) → IsSameAnswer answer other → f answer ≡ f other
-  leaves-same f turned refused (Replied reply) (Replied other) same = ap (λ r. f (Replied r)) same
-  leaves-same f turned refused (Turned r) (Turned s) same = turned r s
-  leaves-same f turned refused (TurnRefused fault) (TurnRefused other) same = refused fault other
-  leaves-same f turned refused (Replied reply) (Turned s) same = absurd same
-  leaves-same f turned refused (Replied reply) (TurnRefused other) same = absurd same
-  leaves-same f turned refused (Turned r) (Replied other) same = absurd same
-  leaves-same f turned refused (Turned r) (TurnRefused other) same = absurd same
-  leaves-same f turned refused (TurnRefused fault) (Replied other) same = absurd same
-  leaves-same f turned refused (TurnRefused fault) (Turned s) same = absurd same
+  -- answers that say the same leave the same
+  left-same : (turns : ℕ) (history : List Event) (event : Event) (answer other : Answer) → IsSameAnswer answer other
+      → (turns_after turns answer ≡ turns_after turns other) × (replied_to history event answer ≡ replied_to history event other)
+      × (cut_by history answer ≡ cut_by history other)
+  left-same turns history event (Replied reply) (Replied other) same = (refl, ap (core.history_after history event) same, refl)
+  left-same turns history event (Turned r) (Turned s) same = (refl, refl, refl)
+  left-same turns history event (TurnRefused fault) (TurnRefused other) same = (refl, refl, refl)
+  left-same turns history event (Replied reply) (Turned s) same = absurd same
+  left-same turns history event (Replied reply) (TurnRefused other) same = absurd same
+  left-same turns history event (Turned r) (Replied other) same = absurd same
+  left-same turns history event (Turned r) (TurnRefused other) same = absurd same
+  left-same turns history event (TurnRefused fault) (Replied other) same = absurd same
+  left-same turns history event (TurnRefused fault) (Turned s) same = absurd same
 
   turns-same : (turns : ℕ) (answer other : Answer) → IsSameAnswer answer other → turns_after turns answer ≡ turns_after turns other
-  turns-same turns = leaves-same (turns_after turns) (λ r s. refl) (λ fault other. refl)
+  turns-same turns answer other same = (left-same turns [] (StepEvent 0) answer other same).0
 
   history-same : (history : List Event) (command : Command) (answer other : Answer) → IsSameAnswer answer other
       → history_after_command history command answer ≡ history_after_command history command other
-  history-same history (Enter client entry) = leaves-same (replied_to history (EnterEvent client entry)) (λ r s. refl) (λ fault other. refl)
-  history-same history (Step client) = leaves-same (replied_to history (StepEvent client)) (λ r s. refl) (λ fault other. refl)
-  history-same history Turn = leaves-same (cut_by history) (λ r s. refl) (λ fault other. refl)
+  history-same history (Enter client entry) answer other same = (left-same 0 history (EnterEvent client entry) answer other same).1
+  history-same history (Step client) answer other same = (left-same 0 history (StepEvent client) answer other same).1
+  history-same history Turn answer other same = (left-same 0 history (StepEvent 0) answer other same).2
+
+  earlier-same : (earlier : List (List Event)) (h : List Event) (answer other : Answer) → IsSameAnswer answer other
+      → earlier_after earlier h answer ≡ earlier_after earlier h other
+  earlier-same earlier h (Replied reply) (Replied other) same = refl
+  earlier-same earlier h (Turned r) (Turned s) same = refl
+  earlier-same earlier h (TurnRefused fault) (TurnRefused other) same = refl
+  earlier-same earlier h (Replied reply) (Turned s) same = absurd same
+  earlier-same earlier h (Replied reply) (TurnRefused other) same = absurd same
+  earlier-same earlier h (Turned r) (Replied other) same = absurd same
+  earlier-same earlier h (Turned r) (TurnRefused other) same = absurd same
+  earlier-same earlier h (TurnRefused fault) (Replied other) same = absurd same
+  earlier-same earlier h (TurnRefused fault) (Turned s) same = absurd same
 
   kept-same : (kept : Option (List (List Event))) (h : List Event) (answer other : Answer) → IsSameAnswer answer other
       → kept_after kept h answer ≡ kept_after kept h other
-  kept-same kept h = leaves-same (kept_after kept h) (λ r s. refl) (λ fault other. refl)
+  kept-same None h answer other same = refl
+  kept-same (Some earlier) h answer other same = ap Some (earlier-same earlier h answer other same)
 
   pub one-list : (turns : ℕ) (history : List Event) (kept : Option (List (List Event))) (commands : List Command)
       → AreEpochs t (earlier_in kept) → IsHistory t history (carried_by t (earlier_in kept))

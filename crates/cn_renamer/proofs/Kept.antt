@@ -85,7 +85,7 @@ is-kept old new command (Turned r) (Replied reply) none few takes same = absurd 
 is-kept old new command (Turned r) (TurnRefused fault) none few takes same = absurd same
 is-kept old new (Enter client entry) (Turned r) (Turned kept) none few takes same = absurd takes
 is-kept old new (Step client) (Turned r) (Turned kept) none few takes same = absurd takes
-is-kept old new Turn (Turned r) (Turned kept) none few had (quiet, said, tight, next) same =
+is-kept old new Turn (Turned r) (Turned kept) none few (quiet, said, tight, next) same =
     let w = old.core.network.table.width in
     turned-kept w r kept same (subst (λ base. IsTightRecord w base r) none tight) (omega (arith, few, said.clients))
 

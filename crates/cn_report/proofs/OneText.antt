@@ -1,5 +1,5 @@
 -- What jobs write has one text.
-use Rattle.std.proofs.Common.{◌≡◌, ℕ, List, [], ◌∷◌, None, Result, Ok, ◌++◌, map, refl, sym, ap, subst, arith, ◌∙◌}
+use Rattle.std.proofs.Common.{◌≡◌, ℕ, List, [], ◌∷◌, None, Result, Ok, Err, ◌++◌, map, refl, sym, ap, ap₂, subst, arith, ◌∙◌}
 use Rattle.cn_tables.specs.Network.{Network, IsNetwork}
 use Rattle.cn_core.specs.History.{carried_by, enters_of, inside_of}
 use Rattle.cn_ledger.specs.declared.command.Command.{Command}
@@ -22,15 +22,21 @@ use Rattle.cn_renamer.specs.Show.{IsWiringOf}
 spelled : List Command → List (Result Command ScheduleCause)
 spelled commands = map Ok commands
 
+head_of : Command → List (Result Command ScheduleCause) → Command
+head_of other [] = other
+head_of other (Ok command ∷ rest) = command
+head_of other (Err cause ∷ rest) = other
+
+tail_of : List (Result Command ScheduleCause) → List (Result Command ScheduleCause)
+tail_of [] = []
+tail_of (first ∷ rest) = rest
+
 same : (commands others : List Command) → spelled commands ≡ spelled others → commands ≡ others
-unfolding spelled
+unfolding spelled head_of tail_of
 same [] [] e = refl
 same [] (other ∷ others) e = cc
 same (command ∷ commands) [] e = cc
-same (command ∷ commands) (other ∷ others) e =
-    let rest : spelled commands ≡ spelled others = cc in
-    let more = same commands others rest in
-    cc
+same (command ∷ commands) (other ∷ others) e = ap₂ (λ c cs. c ∷ cs) (ap (head_of command) e) (same commands others (ap tail_of e))
 
 pub one-schedule : {records : List Record} (commands others : List Command) → IsSchedule records commands → IsSchedule records others
     → commands ≡ others

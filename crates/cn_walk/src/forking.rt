@@ -34,15 +34,6 @@ fn first_position(clients: u32, workers: u32, worker: u32) -> u32
     (u64::from(worker) * u64::from(clients) / u64::from(workers)) as u32
 }
 
-/// How many clients the workers from `from` up to, not including, `to` have.
-fn clients_between(clients: u32, workers: u32, from: u32, to: u32) -> u32
-    requires { (0 < workers) × (from ≤ to) × (to ≤ workers) }
-    ensures value { result ≡ first_position clients workers to - first_position clients workers from }
-    ensures later { first_position clients workers from ≤ first_position clients workers to }
-{
-    first_position(clients, workers, to) - first_position(clients, workers, from)
-}
-
 /// Makes the lanes of the crew's workers from `from` up to, not including, `to`, out of one, and reserves their memory:
 /// each has quota and room for its own clients, and records for a hand of them, or as many as the one had, and of a
 /// fork's two parts the first has room for the grants of both. The second part has about a quarter of the workers, and
@@ -69,7 +60,8 @@ pub(crate) fn make_lanes<'a>(
     ensures spare { IfSome result (λ lanes. lane.yard.spare ≤ (whole lanes).yard.spare) }
     ensures few { IfSome result (λ lanes. (n : ℕ) → lane.yard.spare ≤ n → crew.hand ≤ n → SpareAtMost n lanes) }
 {
-    let own = clients_between(clients, crew.workers, from, to);
+    let first = first_position(clients, crew.workers, from);
+    let own = first_position(clients, crew.workers, to) - first;
     let Ok(()) = lane.reserve_apart(u64::from(own), u64::from(own.min(crew.hand))) else {
         return None;
     };
@@ -77,15 +69,14 @@ pub(crate) fn make_lanes<'a>(
         return Some(Lanes::One(lane, from));
     }
     let middle = to - 1 - (to - from - 2) / 4;
-    let at = clients_between(clients, crew.workers, from, middle);
-    let rest = clients_between(clients, crew.workers, middle, to);
+    let at = first_position(clients, crew.workers, middle) - first;
     if at == 0 {
         return make_lanes(alloc, floor, lane, clients, crew, middle, to);
     }
-    if rest == 0 {
+    if at == own {
         return make_lanes(alloc, floor, lane, clients, crew, from, middle);
     }
-    let Ok((lane, other)) = floor.split(lane, u64::from(rest)) else {
+    let Ok((lane, other)) = floor.split(lane, u64::from(own - at)) else {
         return None;
     };
     let left = make_lanes(alloc, floor, lane, clients, crew, from, middle)?;

@@ -1,5 +1,5 @@
 use Rattle.std.specs.Prelude.{string_bytes}
-use Rattle.std.proofs.Common.{◌≡◌, ◌∙◌}
+use Rattle.std.proofs.Common.{◌≡◌, ◌∙◌, rules}
 use Rattle.std.proofs.lemmas.Result.{err_from_is_err_and}
 use Rattle.cn_texts.proofs.CallerLemmas.{written-map}
 use Rattle.cn_renamer.specs.Outputs.{until_output}
@@ -13,3 +13,9 @@ returns-in_err-write_text-in-Help-clause-written g c known =
     written-map g.W.Write.contents _ (λ text. text ≡ string_bytes c.in-Help.help) (until_output why) c.args.writer.now
     c.write_text.new.writer
     (λ text is. is ∙ c.as_bytes.ensures.value) c.in_err-write_text-in-Help.ensures)
+
+pub returns-in_ok-write_text-in-Help-clause-written : goal.returns-in_ok-write_text-in-Help-clause-written
+returns-in_ok-write_text-in-Help-clause-written g c = search rules
+
+pub returns-in_ok-write_text-in-Help-clause-ends : goal.returns-in_ok-write_text-in-Help-clause-ends
+returns-in_ok-write_text-in-Help-clause-ends g c = search rules

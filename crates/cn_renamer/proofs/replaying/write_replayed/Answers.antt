@@ -1,4 +1,4 @@
-use Rattle.std.proofs.Common.{[], None, ap}
+use Rattle.std.proofs.Common.{ap}
 use Rattle.std.proofs.lemmas.Result.{err_from_is_err_and}
 use Rattle.cn_texts.proofs.CallerLemmas.{written-map}
 use Rattle.cn_texts.specs.Writing.Written.{First}

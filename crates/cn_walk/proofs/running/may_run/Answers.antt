@@ -22,3 +22,6 @@ returns-clause-allowed c =
       by_entries = subst (λ (n : ℕ). All (λ (k : Client). k.entry < n) c.args.clients.now) entries
           (subst (λ (ks : List Client). All (λ (k : Client). k.entry < c.from-entries.result) ks) whole c.loop-position.invariant);
     }
+
+pub returns-then-hand-eq0-clause-refused : goal.returns-then-hand-eq0-clause-refused
+returns-then-hand-eq0-clause-refused c = search rules
