@@ -92,7 +92,8 @@ is-kept old new Turn (Turned r) (Turned kept) none few (quiet, said, tight, next
 -- all that is kept can be shown
 pub all-showable : (w : ℕ) (answers kept : List Answer) → AllZip (IsKept w) answers kept → All (IsShowable w) kept
 all-showable w answers kept are = λ place default within.
-    (AllZip-get_or (IsKept w) answers kept place default default are (omega (arith, within, length_all_zip (IsKept w) answers kept are))).showable
+    (AllZip-get_or (IsKept w) answers kept place default default are
+    (omega (arith, within, length_all_zip (IsKept w) answers kept are))).showable
 
 -- ---- the text of what is kept
 

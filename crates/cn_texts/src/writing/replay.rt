@@ -117,7 +117,13 @@ fn send_answers<W: Write>(
         (answer_lines width commands.now answers.now) }
 {
     for position in 0..commands.len().min(answers.len()) {
-        send_answer(pieces, writer, width, commands[position], &answers[position]);
+        send_answer(
+            pieces,
+            writer,
+            width,
+            commands[position],
+            &answers[position],
+        );
     }
 }
 

@@ -13,7 +13,8 @@ loop-position-init g c = put-none
 pub send_answer-requires-clause-showable : goal.send_answer-requires-clause-showable
 send_answer-requires-clause-showable g c =
     let answer = c.index-answers-position in
-    rw answer.is (All-get_or (IsShowable c.args.width) c.args.answers.now c.loop-position.position answer.result (omega arith) c.requires.showable)
+    rw answer.is (All-get_or (IsShowable c.args.width) c.args.answers.now c.loop-position.position answer.result (omega arith)
+    c.requires.showable)
 
 pub loop-position-preserved : goal.loop-position-preserved
 loop-position-preserved g c =

@@ -22,4 +22,5 @@ returns-in_err-arrival_of-clause-refused g c =
 pub returns-in_err-arrival_of-clause-told : goal.returns-in_err-arrival_of-clause-told
 returns-in_err-arrival_of-clause-told g c =
     let reported = err_from_is_err_and c.from_residual-in_err-arrival_of.result c.from_residual-in_err-arrival_of.ensures.1 in
-    rw (reported.1, reported.2) (told-other batch_cause_of_fault _ c.in_ok-next_record.ensures.plain.going c.in_err-arrival_of.ensures.no_read)
+    rw (reported.1, reported.2) (told-other batch_cause_of_fault _ c.in_ok-next_record.ensures.plain.going
+    c.in_err-arrival_of.ensures.no_read)
