@@ -11,7 +11,6 @@ use Rattle.cn_ledger.specs.declared.answer.Answer.TheVariants.{Replied, Turned, 
 use Rattle.cn_ledger.specs.declared.command.Command.{Command}
 use Rattle.cn_ledger.specs.declared.command.Command.TheVariants.{Enter, Step, Turn}
 use Rattle.cn_ledger.specs.declared.record.EpochRecord.{EpochRecord}
-use Rattle.cn_ledger.specs.Answers.{HadMemory}
 use Rattle.cn_tables.specs.Network.{Network}
 use Rattle.cn_core.specs.declared.event.Event.{Event}
 use Rattle.cn_core.specs.History.{carried_by, enters_of, inside_of}
@@ -19,7 +18,7 @@ use Rattle.cn_core.specs.State.{start}
 use Rattle.cn_epoch.specs.Calls.{TakesCommandTo}
 use Rattle.cn_epoch.specs.History.{ByEpochHistories, Epochs, EpochsAgree, history_by_commands, turns_by}
 use Rattle.cn_epoch.specs.Turns.{IsTightRecord}
-use Rattle.cn_texts.specs.Writing.Replay.{AreAnswers, Fits, IsShowable, answer_line, counts_or_shares, replay_text}
+use Rattle.cn_texts.specs.Writing.Replay.{IsShowable, answer_line, counts_or_shares, replay_text}
 use Rattle.cn_texts.proofs.CallerLemmas.{lines-by}
 use Rattle.cn_renamer.specs.Replay.{AreAnsweredAs, IsKept, IsReplayText, IsWithoutCounts}
 
@@ -51,11 +50,6 @@ shown-shares w clients [] is = refl
 shown-shares w clients (count ∷ counts) is = is
 
 module _ (w : ℕ) (r kept : EpochRecord) (without : IsWithoutCounts (Turned r) (Turned kept)) (tight : IsTightRecord w 0 r) where
-  fits-turned : (command : Command) → Fits command (Turned r) → Fits command (Turned kept)
-  fits-turned (Enter client entry) fits = fits
-  fits-turned (Step client) fits = fits
-  fits-turned Turn fits = tt
-
   lines-turned : (command : Command) → answer_line w command (Turned r) ≡ answer_line w command (Turned kept)
   unfolding answer_line
   lines-turned (Enter client entry) = refl
@@ -68,9 +62,7 @@ module _ (w : ℕ) (r kept : EpochRecord) (without : IsWithoutCounts (Turned r) 
   turned-kept few =
       let (number, clients, none, holders) = without in
       record {
-        fits = fits-turned;
         lines = lines-turned;
-        memory = tt;
         showable = record {
           counts = ap (λ (counts : List ℕ). length (counts_or_shares w kept.clients counts)) none ∙ shares-many w kept.clients;
           few = λ same. omega (arith, few, clients);
@@ -79,41 +71,29 @@ module _ (w : ℕ) (r kept : EpochRecord) (without : IsWithoutCounts (Turned r) 
       }
 
 -- of an answer without a record all is kept
-itself-kept : (w : ℕ) (answer : Answer) → HadMemory answer → IsShowable w answer → IsKept w answer answer
-itself-kept w answer had showable = record { fits = λ command fits. fits; lines = λ command. refl; memory = had; showable = showable }
+itself-kept : (w : ℕ) (answer : Answer) → IsShowable w answer → IsKept w answer answer
+itself-kept w answer showable = record { lines = λ command. refl; showable = showable }
 
 -- what is kept of an answer that takes epochs on which nothing is carried
 pub is-kept : (old new : Epochs) (command : Command) (answer kept : Answer) → old.core.base ≡ 0 → length old.core.clients ≤ MOST_CLIENTS
-    → HadMemory answer → TakesCommandTo old command answer new
-    → IsWithoutCounts answer kept → IsKept old.core.network.table.width answer kept
-is-kept old new command (Replied reply) kept none few had takes same =
-    let w = old.core.network.table.width in subst (IsKept w (Replied reply)) (sym same) (itself-kept w (Replied reply) had tt)
-is-kept old new command (TurnRefused fault) kept none few had takes same =
-    let w = old.core.network.table.width in subst (IsKept w (TurnRefused fault)) (sym same) (itself-kept w (TurnRefused fault) had tt)
-is-kept old new command (Turned r) (Replied reply) none few had takes same = absurd same
-is-kept old new command (Turned r) (TurnRefused fault) none few had takes same = absurd same
-is-kept old new (Enter client entry) (Turned r) (Turned kept) none few had takes same = absurd takes
-is-kept old new (Step client) (Turned r) (Turned kept) none few had takes same = absurd takes
-is-kept old new Turn (Turned r) (Turned kept) none few had (quiet, said, tight, next) same =
+    → TakesCommandTo old command answer new → IsWithoutCounts answer kept → IsKept old.core.network.table.width answer kept
+is-kept old new command (Replied reply) kept none few takes same =
+    let w = old.core.network.table.width in subst (IsKept w (Replied reply)) (sym same) (itself-kept w (Replied reply) tt)
+is-kept old new command (TurnRefused fault) kept none few takes same =
+    let w = old.core.network.table.width in subst (IsKept w (TurnRefused fault)) (sym same) (itself-kept w (TurnRefused fault) tt)
+is-kept old new command (Turned r) (Replied reply) none few takes same = absurd same
+is-kept old new command (Turned r) (TurnRefused fault) none few takes same = absurd same
+is-kept old new (Enter client entry) (Turned r) (Turned kept) none few takes same = absurd takes
+is-kept old new (Step client) (Turned r) (Turned kept) none few takes same = absurd takes
+is-kept old new Turn (Turned r) (Turned kept) none few (quiet, said, tight, next) same =
     let w = old.core.network.table.width in
     turned-kept w r kept same (subst (λ base. IsTightRecord w base r) none tight) (omega (arith, few, said.clients))
 
--- what is kept fits the commands
-pub fit-kept : (w : ℕ) (commands : List Command) (answers kept : List Answer) → AreAnswers commands answers → AllZip (IsKept w) answers kept
-    → AreAnswers commands kept
-fit-kept w [] [] [] fit are = tt
-fit-kept w (c ∷ cs) (a ∷ rest) (k ∷ ks) fit are = (are.0.fits c fit.0, fit-kept w cs rest ks fit.1 are.1)
-fit-kept w [] [] (k ∷ ks) fit are = absurd are
-fit-kept w [] (a ∷ rest) kept fit are = absurd fit
-fit-kept w (c ∷ cs) [] kept fit are = absurd fit
-fit-kept w (c ∷ cs) (a ∷ rest) [] fit are = absurd are
-
--- what holds of all that is kept
-pub all-kept : (w : ℕ) (P : Answer → Type 0) → ((answer kept : Answer) → IsKept w answer kept → P kept) → (answers kept : List Answer)
-    → AllZip (IsKept w) answers kept → All P kept
-all-kept w P of answers kept are = λ place default within.
-    of (get_or answers place default) (get_or kept place default)
-    (AllZip-get_or (IsKept w) answers kept place default default are (omega (arith, within, length_all_zip (IsKept w) answers kept are)))
+-- all that is kept can be shown
+pub all-showable : (w : ℕ) (answers kept : List Answer) → AllZip (IsKept w) answers kept → All (IsShowable w) kept
+all-showable w answers kept are = λ place default within.
+    (AllZip-get_or (IsKept w) answers kept place default default are
+    (omega (arith, within, length_all_zip (IsKept w) answers kept are))).showable
 
 -- ---- the text of what is kept
 

@@ -3,6 +3,5 @@ pub mod Built
 pub mod Floors
 pub mod Kept
 pub mod Refused
-pub mod Replies
 pub mod Running
 pub mod Served

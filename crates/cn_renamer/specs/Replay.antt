@@ -10,7 +10,7 @@ use Rattle.cn_epoch.specs.Calls.{AnswersCommandByHistory, RunsCommandsByHistory}
 use Rattle.cn_epoch.specs.History.{Epochs, MayAnswerCommands, history_by_commands, turns_by}
 use Rattle.cn_ledger.specs.Answers.{HadMemory}
 use Rattle.cn_texts.specs.Reading.Records.{records_of}
-use Rattle.cn_texts.specs.Writing.Replay.{Fits, IsShowable, answer_line, replay_text}
+use Rattle.cn_texts.specs.Writing.Replay.{IsShowable, answer_line, replay_text}
 use Rattle.cn_texts.specs.Reading.Schedule.{IsSchedule, IsScheduleFault}
 use Rattle.cn_texts.specs.declared.reading.schedule_fault.ScheduleCause.{ScheduleCause}
 use Rattle.cn_texts.specs.declared.reading.schedule_fault.ScheduleCause.TheVariants as cause
@@ -31,11 +31,9 @@ IsWithoutCounts (Turned r) (Turned kept) =
 IsWithoutCounts (Turned r) (Replied reply) = ⊥
 IsWithoutCounts (Turned r) (TurnRefused fault) = ⊥
 
--- this is kept of an answer: it fits the commands that the answer fits, has the same lines, and can be shown
+-- this is kept of an answer: it has the same lines, and can be shown
 pub record IsKept (width : ℕ) (answer kept : Answer) : Type 0 where
-  pub fits : (command : Command) → Fits command answer → Fits command kept
   pub lines : (command : Command) → answer_line width command answer ≡ answer_line width command kept
-  pub memory : HadMemory kept
   pub showable : IsShowable width kept
 
 -- the command has an answer by history, which is not want of memory, and this is kept of it

@@ -2,11 +2,10 @@
 
 ghost use Rattle.std.specs.Prelude.{◌≡◌, All, IfOk};
 ghost use Rattle.std.specs.List.{flat_map, sum_by};
-ghost use Rattle.cn_ledger.specs.Answers.{HadMemory};
 ghost use Rattle.cn_ledger.specs.declared.record.EpochRecord.{EpochRecord};
 ghost use Rattle.cn_texts.specs.Grants.ListText.{grant_lines, grants_text};
 ghost use Rattle.cn_texts.specs.Writing.Pieces.{Puts};
-ghost use Rattle.cn_texts.specs.Writing.Replay.{AreAnswers, replay_text};
+ghost use Rattle.cn_texts.specs.Writing.Replay.{replay_text};
 ghost use Rattle.cn_texts.specs.Writing.Report.{epoch_lines, report_text};
 ghost use Rattle.cn_texts.specs.Writing.Wiring.{wiring_text};
 ghost use Rattle.cn_report.specs.Callers.{HasHolders, IsWhole, IsWholeRecord};
@@ -129,8 +128,6 @@ pub fn render_replay(
     entered: u64,
     inside: u64,
 ) -> Result<Vec<u8>, AllocError>
-    requires fit { AreAnswers commands.now answers.now }
-    requires memory { All HadMemory answers.now }
     requires whole { All (IsWhole network.now.table.width) answers.now }
     ensures { IfOk result (λ text. text.items
         ≡ replay_text network.now commands.now answers.now number entered inside) }

@@ -1,5 +1,5 @@
 -- The grants that were seen so far.
-use Rattle.cn_texts.proofs.Common.{◌≡◌, ◌<◌, ◌≤◌, ◌+◌, ℕ, Bool, List, [], ◌∷◌, ◌++◌, true, false, Option, Some, None, length, get_or, refl, arith, suc, zero, sym, ap, ◌∙◌, inl, inr, map, subst, take, length-append, length-map, get_or-map, append_assoc, if◌then◌else◌, ◌==◌, ◌⊎◌, nat_eq, AllByRecursion, list_any, append-nil, map-append, filter-append, fold-append, All-from_recursion, All-get_or, lt-ltb, le-ltb, le-leb, lt-leb, ne_eqb, eq-eqb, leb_tells}
+use Rattle.cn_texts.proofs.Common.{◌≡◌, ◌<◌, ◌≤◌, ◌+◌, ℕ, Bool, List, [], ◌∷◌, ◌++◌, true, false, Option, Some, None, length, get_or, refl, arith, suc, zero, sym, ap, ◌∙◌, inl, inr, map, subst, take, length-append, length-map, get_or-map, append_assoc, if◌then◌else◌, ◌==◌, ◌⊎◌, nat_eq, AllByRecursion, list_any, append-nil, map-append, filter-append, fold-append, All-from_recursion, All-get_or, lt-ltb, ne_eqb, eq-eqb, leb_tells, nat_tests}
 use Rattle.std.proofs.Math.Dec.{leb}
 use Rattle.std.specs.Prelude.{◌||◌, IfSome, slice_get}
 use Rattle.std.specs.Option.{is_some}
@@ -107,19 +107,16 @@ turned old new earlier latest h before clients names gap held =
 -- the form's cause
 pub form-back : (most : ℕ) (before : List Granted) (g : Granted) → g.epoch < last_epoch before → form_cause most before g ≡ Some cause.Form
 unfolding form_cause
-form-back most before g h = rw (lt-ltb g.epoch (last_epoch before) h) refl
+form-back most before g h = grind (arith, nat_tests, h)
 
 pub form-full : (most : ℕ) (before : List Granted) (g : Granted) → most ≤ length before → form_cause most before g ≡ Some cause.Form
 unfolding form_cause
-form-full most before g h = elim (leb_tells (suc g.epoch) (last_epoch before)) [
-  | inl w ↦ rw w.0 refl
-  | inr w ↦ rw (w.0, le-leb most (length before) h) refl
-]
+form-full most before g h = grind (arith, nat_tests, h)
 
 pub form-none : (most : ℕ) (before : List Granted) (g : Granted) → last_epoch before ≤ g.epoch → length before < most
     → form_cause most before g ≡ None
 unfolding form_cause
-form-none most before g h few = rw (le-ltb g.epoch (last_epoch before) h, lt-leb most (length before) few) refl
+form-none most before g h few = grind (arith, nat_tests, h, few)
 
 -- the grants of an epoch, with one more
 pub of_same : (before : List Granted) (grant : Granted) (e : ℕ) → grant.epoch ≡ e

@@ -1,12 +1,14 @@
 -- Numbers whose occurrences were sorted: where one stands at an earlier place, and which are missing.
-use Rattle.cn_texts.proofs.Common.{◌≡◌, ◌<◌, ◌≤◌, ◌+◌, ◌-◌, ℕ, List, [], ◌∷◌, ◌++◌, true, false, Option, Some, None, length, get_or, refl, arith, suc, zero, sym, ap, ◌∙◌, inl, inr, map, subst, ◌⊎◌, All, nat_eq, range_with_len, All-get_or, get_or-map, length-map, ne_eqb, eq-eqb, leb_tells}
+use Rattle.cn_texts.proofs.Common.{◌≡◌, ◌<◌, ◌≤◌, ◌+◌, ◌-◌, ℕ, List, [], ◌∷◌, ◌++◌, true, false, Option, Some, None, length, get_or, refl, arith, suc, zero, sym, ap, ◌∙◌, inl, inr, map, subst, ◌⊎◌, All, nat_eq, range_with_len, All-get_or, get_or-map, length-map, ne_eqb, eq-eqb, leb_tells, nat_tests}
 use Rattle.std.proofs.Math.Dec.{leb}
 use Rattle.std.specs.Prelude.{IfSome, MatchOption}
 use Rattle.std.specs.List.Sorted.{IsPermutation, IsSorted, IsStrictlyIncreasing}
 use Rattle.std.specs.Ordering.{is_lt, nat_cmp, ordering_then}
 use Rattle.std.proofs.lemmas.List.Elements.{All-from_get_or}
 use Rattle.std.proofs.lemmas.List.Folds.{list_any_at, list_any_none}
-use Rattle.std.proofs.lemmas.List.Sorted.{All-permutation, IsPermutation-map, length_permutation, list_any-IsPermutation}
+use Rattle.std.proofs.lemmas.Cmp.{nat_cmp_total, on_total, then_total}
+use Rattle.std.proofs.lemmas.List.Sorted.{All-permutation, IsPermutation-map, length_permutation, list_any-IsPermutation, ranks_by, sorted_far}
+use Rattle.std.specs.Cmp.{IsStrictWeakOrder}
 use Rattle.cn_spec.specs.Sums.{times}
 use Rattle.cn_spec.proofs.CallerLemmas.{times-inside, times-order, times-place, times-two}
 use Rattle.cn_texts.specs.Grants.Occurrences.{IsFirstRepeat, IsRepeat, has_number, numbers_of, occurrences_from}
@@ -65,50 +67,14 @@ all-placed ns = All-from_get_or (IsPlaced ns) (occurrences_from 0 ns) (occurrenc
     subst (λ (o : Occurrence). (o.place < length ns) × (get_or ns o.place 0 ≡ o.number))
     (sym (occurrence-at 0 ns i (occurrence 0 0) within ∙ ap (λ (p : ℕ). occurrence (get_or ns i 0) p) same)) (within, refl))
 
--- ---- two rows of numbers, of which the first never falls, and the second does not where the first stands still
+-- ---- the order: by number, and those of one number by place
+
+ordered : IsStrictWeakOrder (λ (x y : Occurrence). is_lt (ordering_then (nat_cmp x.number y.number) (nat_cmp x.place y.place)))
+ordered = ranks_by
+    (then_total (on_total (λ (o : Occurrence). o.number) nat_cmp_total) (on_total (λ (o : Occurrence). o.place) nat_cmp_total)) (λ o. o)
 
 step : (a b p q : ℕ) → is_lt (ordering_then (nat_cmp b a) (nat_cmp q p)) ≡ false → (a < b) ⊎ ((a ≡ b) × (p ≤ q))
-step a b p q h = each (leb_tells (suc b) a) (leb_tells (suc a) b)
-  where
-    same : a ≡ b → ((leb (suc q) p ≡ true) × (suc q ≤ p)) ⊎ ((leb (suc q) p ≡ false) × (p < suc q)) → leb (suc b) a ≡ false
-        → (a < b) ⊎ ((a ≡ b) × (p ≤ q))
-    same e (inl w) back = cc (rw (back, eq-eqb b a (sym e), w.0) at h)
-    same e (inr w) back = inr (e, omega (arith, w.1))
-
-    each : ((leb (suc b) a ≡ true) × (suc b ≤ a)) ⊎ ((leb (suc b) a ≡ false) × (a < suc b))
-        → ((leb (suc a) b ≡ true) × (suc a ≤ b)) ⊎ ((leb (suc a) b ≡ false) × (b < suc a)) → (a < b) ⊎ ((a ≡ b) × (p ≤ q))
-    each (inl w) e = cc (rw w.0 at h)
-    each (inr w) (inl more) = inl (omega (arith, more.1))
-    each (inr w) (inr less) = same (omega (arith, w.1, less.1)) (leb_tells (suc q) p) w.0
-
-module _ (N P : ℕ → ℕ) (size : ℕ) (steps : (k : ℕ) → suc k < size → (N k < N (suc k)) ⊎ ((N k ≡ N (suc k)) × (P k ≤ P (suc k)))) where
-  never-falls : (i j : ℕ) → i ≤ j → j < size → N i ≤ N j
-  never-falls i zero le h = omega (arith, ap N (let same : i ≡ 0 = omega (arith, le) in same))
-  never-falls i (suc j) le h = elim (leb_tells i j) [
-    | inl w ↦ elim (steps j h) [
-      | inl less ↦ omega (arith, never-falls i j w.1 (omega (arith, h)), less)
-      | inr same ↦ omega (arith, never-falls i j w.1 (omega (arith, h)), same.0)
-    ]
-    | inr w ↦ omega (arith, ap N (let same : i ≡ suc j = omega (arith, le, w.1) in same))
-  ]
-
-  in-turn : (i j : ℕ) → i ≤ j → j < size → N i ≡ N j → P i ≤ P j
-  in-turn i zero le h e = omega (arith, ap P (let same : i ≡ 0 = omega (arith, le) in same))
-  in-turn i (suc j) le h e = elim (leb_tells i j) [
-    | inl w ↦ elim (steps j h) [
-      | inl less ↦ absurd (omega (arith, never-falls i j w.1 (omega (arith, h)), less, e))
-      | inr same ↦ omega (arith, in-turn i j w.1 (omega (arith, h)) (e ∙ sym same.0), same.1)
-    ]
-    | inr w ↦ omega (arith, ap P (let same : i ≡ suc j = omega (arith, le, w.1) in same))
-  ]
-
-  -- before a later one stands one with its number
-  neighbour : (i j : ℕ) → i < j → j < size → N i ≡ N j → (b : ℕ) × (suc b ≡ j) × (N b ≡ N (suc b))
-  neighbour i zero less h e = absurd (omega (arith, less))
-  neighbour i (suc b) less h e = elim (steps b h) [
-    | inl more ↦ absurd (omega (arith, never-falls i b (omega (arith, less)) (omega (arith, h)), more, e))
-    | inr same ↦ (b, refl, same.0)
-  ]
+step a b p q h = grind (arith, nat_tests, h)
 
 -- ---- the first place whose number stands at an earlier one
 
@@ -156,19 +122,12 @@ seen-again s at None place inside again low lower one seen = (
   λ c k same. elim (cut c at k) [ inl l ↦ absurd (seen c l same) | inr here ↦ omega (arith, low, ap (place_at s) here) ],
 )
 seen-again s at (Some other) place inside again low lower one ((b, h, was, is), least) = (
-  elim one [ inl here ↦ (at, inside, again, sym here) | inr e ↦ (b, h, was, is ∙ some-is e) ],
+  elim one [ inl here ↦ (at, inside, again, sym here) | inr e ↦ (b, h, was, is ∙ (let same : other ≡ place = cc e in same)) ],
   λ c k same. elim (cut c at k) [
     | inl l ↦ omega (arith, least c l same, lower)
     | inr here ↦ omega (arith, low, ap (place_at s) here)
   ],
 )
-  where
-    some-is : Some other ≡ Some place → other ≡ place
-    some-is e = ap (λ (o : Option ℕ). get o other) e
-      where
-        get : Option ℕ → ℕ → ℕ
-        get None d = d
-        get (Some x) d = x
 
 -- at the end
 pub seen-all : (s : List Occurrence) (at : ℕ) (first : Option ℕ) → length s ≤ at → IsSeen s at first → IsSeen s (length s) first
@@ -181,13 +140,14 @@ module _ (ns : List ℕ) (s : List Occurrence) (order : IsPermutation (occurrenc
   as-many : length s ≡ length ns
   as-many = length_permutation (occurrences_from 0 ns) s order ∙ length-occurrences 0 ns
 
-  steps : (k : ℕ) → suc k < length s
-      → (number_at s k < number_at s (suc k)) ⊎ ((number_at s k ≡ number_at s (suc k)) × (place_at s k ≤ place_at s (suc k)))
-  steps k h =
-      let next : k + 1 ≡ suc k = omega arith in
-      step (number_at s k) (number_at s (suc k)) (place_at s k) (place_at s (suc k))
-      (subst (λ (j : ℕ). is_lt (ordering_then (nat_cmp (number_at s j) (number_at s k)) (nat_cmp (place_at s j) (place_at s k))) ≡ false)
-      next (sorted k (occurrence 0 0) (omega arith) (omega (arith, h))))
+  in-turn : (i j : ℕ) → i ≤ j → j < length s
+      → (number_at s i < number_at s j) ⊎ ((number_at s i ≡ number_at s j) × (place_at s i ≤ place_at s j))
+  in-turn i j le h = step (number_at s i) (number_at s j) (place_at s i) (place_at s j)
+      (sorted_far (λ (x y : Occurrence). is_lt (ordering_then (nat_cmp x.number y.number) (nat_cmp x.place y.place))) ordered s sorted i j
+      (occurrence 0 0) le h)
+
+  never-falls : (i j : ℕ) → i ≤ j → j < length s → number_at s i ≤ number_at s j
+  never-falls i j le h = elim (in-turn i j le h) [ inl less ↦ omega (arith, less) | inr same ↦ omega (arith, same.0) ]
 
   placed : (i : ℕ) → i < length s → (place_at s i < length ns) × (get_or ns (place_at s i) 0 ≡ number_at s i)
   unfolding IsPlaced
@@ -234,12 +194,13 @@ module _ (ns : List ℕ) (s : List Occurrence) (order : IsPermutation (occurrenc
           → ((leb (suc i) j ≡ true) × (suc i ≤ j)) ⊎ ((leb (suc i) j ≡ false) × (j < suc i))
           → (b : ℕ) × (b < length s) × IsAgain s b × (place_at s b ≡ p)
       later i i-in i-is j j-in j-is same (inl w) =
-          let (b, next, again) = neighbour (number_at s) (place_at s) (length s) steps i j (omega (arith, w.1)) j-in same in
-          let before : j - 1 ≡ b = omega (arith, next) in
-          (j, j-in, (omega (arith, w.1), ap (number_at s) before ∙ again ∙ ap (number_at s) next), j-is)
-      later i i-in i-is j j-in j-is same (inr w) =
-          let turn = in-turn (number_at s) (place_at s) (length s) steps j i (omega (arith, w.1)) i-in (sym same) in
-          absurd (omega (arith, turn, i-is, j-is, less))
+          let first = never-falls i (j - 1) (omega (arith, w.1)) (omega (arith, j-in)) in
+          let last = never-falls (j - 1) j (omega arith) j-in in
+          (j, j-in, (omega (arith, w.1), omega (arith, first, last, same)), j-is)
+      later i i-in i-is j j-in j-is same (inr w) = elim (in-turn j i (omega (arith, w.1)) i-in) [
+        | inl more ↦ absurd (omega (arith, more, same))
+        | inr turn ↦ absurd (omega (arith, turn.1, i-is, j-is, less))
+      ]
 
   -- and no other
   sound : (b : ℕ) → b < length s → IsAgain s b → (place_at s b < length ns) × IsRepeat ns (place_at s b)
@@ -247,14 +208,16 @@ module _ (ns : List ℕ) (s : List Occurrence) (order : IsPermutation (occurrenc
       let before : b - 1 < b = omega (arith, some) in
       let (within, here) = placed b h in
       let there = (placed (b - 1) (omega (arith, h))).1 in
-      let le = in-turn (number_at s) (place_at s) (length s) steps (b - 1) b (omega arith) h e in
-      (within, (place_at s (b - 1), less (leb_tells (suc (place_at s (b - 1))) (place_at s b)) before le, there ∙ e ∙ sym here))
+      (within, (place_at s (b - 1), less (leb_tells (suc (place_at s (b - 1))) (place_at s b)) before, there ∙ e ∙ sym here))
     where
       less : ((leb (suc (place_at s (b - 1))) (place_at s b) ≡ true) × (suc (place_at s (b - 1)) ≤ place_at s b))
           ⊎ ((leb (suc (place_at s (b - 1))) (place_at s b) ≡ false) × (place_at s b < suc (place_at s (b - 1)))) → b - 1 < b
-          → place_at s (b - 1) ≤ place_at s b → place_at s (b - 1) < place_at s b
-      less (inl w) before le = omega (arith, w.1)
-      less (inr w) before le = absurd (apart (b - 1) b before h (omega (arith, w.1, le)))
+          → place_at s (b - 1) < place_at s b
+      less (inl w) before = omega (arith, w.1)
+      less (inr w) before = elim (in-turn (b - 1) b (omega arith) h) [
+        | inl more ↦ absurd (omega (arith, more, e))
+        | inr turn ↦ absurd (apart (b - 1) b before h (omega (arith, w.1, turn.1)))
+      ]
 
   pub repeat-first : (first : Option ℕ) → IsSeen s (length s) first → IsFirstRepeat ns first
   unfolding IsSeen
@@ -271,33 +234,26 @@ module _ (ns : List ℕ) (s : List Occurrence) (order : IsPermutation (occurrenc
   unfolding IsSeen
   none-rising seen = λ k h.
       let size = length-map s (λ (o : Occurrence). o.number) in
-      let next : k + 1 ≡ suc k = omega arith in
       let here = get_or-map (λ (o : Occurrence). o.number) s k (occurrence 0 0) 0 (omega (arith, h, size)) in
       let there = get_or-map (λ (o : Occurrence). o.number) s (k + 1) (occurrence 0 0) 0 (omega (arith, h, size)) in
       let before : k + 1 - 1 ≡ k = omega arith in
-      elim (steps k (omega (arith, h, size))) [
-        | inl less ↦ omega (arith, less, here, there, ap (number_at s) next)
-        | inr same ↦ absurd (seen (k + 1) (omega (arith, h, size))
-            (omega arith, ap (number_at s) before ∙ same.0 ∙ ap (number_at s) (sym next)))
+      elim (in-turn k (k + 1) (omega arith) (omega (arith, h, size))) [
+        | inl less ↦ omega (arith, less, here, there)
+        | inr same ↦ absurd (seen (k + 1) (omega (arith, h, size)) (omega arith, ap (number_at s) before ∙ same.0))
       ]
 
 -- ---- the least number that is missing
 
 module _ (ns : List ℕ) (rising : IsStrictlyIncreasing ns) where
-  rises : (k : ℕ) → suc k < length ns → (get_or ns k 0 < get_or ns (suc k) 0) ⊎ ((get_or ns k 0 ≡ get_or ns (suc k) 0) × (0 ≤ 0))
-  rises k h =
-      let next : k + 1 ≡ suc k = omega arith in
-      inl (omega (arith, rising k (omega (arith, h)), ap (λ (j : ℕ). get_or ns j 0) next))
-
-  -- none is below its index
-  at_least : (k : ℕ) → k < length ns → k ≤ get_or ns k 0
-  at_least zero h = omega arith
-  at_least (suc k) h = elim (rises k h) [
-    | inl less ↦ omega (arith, at_least k (omega (arith, h)), less)
-    | inr same ↦
-        let next : k + 1 ≡ suc k = omega arith in
-        omega (arith, at_least k (omega (arith, h)), rising k (omega (arith, h)), ap (λ (j : ℕ). get_or ns j 0) next)
-  ]
+  -- from one index to another they rise at least as far as the index does
+  rise-by : (i j : ℕ) → i ≤ j → j < length ns → get_or ns i 0 + (j - i) ≤ get_or ns j 0
+  rise-by i zero le h = omega (arith, ap (λ (k : ℕ). get_or ns k 0) (let same : i ≡ 0 = omega (arith, le) in same))
+  rise-by i (suc j) le h =
+      let next = ap (λ (k : ℕ). get_or ns k 0) (let same : j + 1 ≡ suc j = omega arith in same) in
+      elim (leb_tells i j) [
+        | inl w ↦ omega (arith, rise-by i j w.1 (omega (arith, h)), rising j (omega (arith, h)), next, w.1)
+        | inr w ↦ omega (arith, w.1, ap (λ (k : ℕ). get_or ns k 0) (let same : i ≡ suc j = omega (arith, le, w.1) in same))
+      ]
 
   -- where the first differs from its index the index is missing
   pub missing-there : (at : ℕ) → at < length ns → ((k : ℕ) → k < at → get_or ns k 0 ≡ k) → (get_or ns at 0 ≡ at → ⊥)
@@ -306,13 +262,10 @@ module _ (ns : List ℕ) (rising : IsStrictlyIncreasing ns) where
       (All-from_get_or (λ (n : ℕ). nat_eq at n ≡ false) ns 0 (λ i k. each i k (leb_tells (suc i) at)))
     where
       above : (i : ℕ) → i < length ns → at ≤ i → at < get_or ns i 0
-      above i k le =
-          let low = at_least at h in
-          let far = never-falls (λ j. get_or ns j 0) (λ _. 0) (length ns) rises at i le k in
-          elim (leb_tells (get_or ns at 0) at) [
-            | inl w ↦ absurd (other (omega (arith, w.1, low)))
-            | inr w ↦ omega (arith, w.1, far)
-          ]
+      above i k le = elim (leb_tells (get_or ns at 0) at) [
+        | inl w ↦ absurd (other (omega (arith, w.1, rise-by 0 at (omega arith) h)))
+        | inr w ↦ omega (arith, w.1, rise-by at i le k)
+      ]
 
       each : (i : ℕ) → i < length ns → ((leb (suc i) at ≡ true) × (suc i ≤ at)) ⊎ ((leb (suc i) at ≡ false) × (at < suc i))
           → nat_eq at (get_or ns i 0) ≡ false

@@ -1,12 +1,12 @@
 -- A list is tight exactly where no record has a cause and no epoch lacks a name.
-use Rattle.cn_texts.proofs.Common.{◌≡◌, ◌<◌, ◌≤◌, ◌+◌, ℕ, Bool, List, [], ◌∷◌, ◌++◌, true, false, Option, Some, None, length, map, take, drop, get_or, cond, refl, arith, suc, zero, sym, ap, ◌∙◌, inl, inr, subst, eqb, if◌then◌else◌, ◌==◌, ◌⊎◌, ◌≢◌, nat_lt, cons_option, list_any, IfErr, MatchResult, Result, Ok, Err, map-append, length-map, filter-append, eq-eqb, ne_eqb, lt-ltb, le-ltb, eqb_tells, leb_tells, Record}
+use Rattle.cn_texts.proofs.Common.{nat_tests, ◌≡◌, ◌<◌, ◌≤◌, ◌+◌, ℕ, Bool, List, [], ◌∷◌, ◌++◌, true, false, Option, Some, None, length, map, take, drop, get_or, refl, arith, suc, zero, sym, ap, ◌∙◌, inl, inr, subst, if◌then◌else◌, ◌==◌, ◌≢◌, nat_lt, cons_option, list_any, IfErr, MatchResult, Result, Ok, Err, map-append, length-map, filter-append, eq-eqb, ne_eqb, lt-ltb, le-ltb, eqb_tells, leb_tells, Record}
 use Rattle.std.proofs.lemmas.Option.{none-some}
 use Rattle.cn_spec.specs.Sums.{times}
 use Rattle.cn_spec.proofs.CallerLemmas.{times-append, times-nil}
 use Rattle.cn_spec.proofs.CallerLemmas.{times-cons}
 use Rattle.cn_texts.specs.Reading.Faults.{IsClean, cause_by}
 use Rattle.cn_texts.specs.Grants.Granted.{first_cause, form_cause, grant_spelled, grants_spelled, has_client, has_name, of_epoch, spelled_cause, spelled_form, twice_cause}
-use Rattle.cn_texts.specs.Grants.TightList.{IsFirstWithCause, IsFlaw, IsOfReading, IsOutside, AreTightGrants, IsTightList, Lacks, grants_cause, grants_form, header_cause, record_cause, record_form}
+use Rattle.cn_texts.specs.Grants.TightList.{IsFirstWithCause, IsFlaw, IsOutside, AreTightGrants, IsTightList, Lacks, grants_cause, grants_form, header_cause, record_cause, record_form}
 use Rattle.cn_texts.specs.declared.grants.record.Granted.{Granted}
 use Rattle.cn_texts.specs.declared.grants.record.GrantCause.{GrantCause}
 use Rattle.cn_texts.specs.declared.grants.record.GrantCause.TheVariants as cause
@@ -18,21 +18,11 @@ use Rattle.cn_spec.proofs.CallerLemmas.{all_below, at_most_once, once_each, once
 -- a number that some grant has stands among theirs, and one that none has does not
 any-times : (f : Granted → ℕ) (n : ℕ) (gs : List Granted) → list_any (λ g. n == f g) gs ≡ true → 1 ≤ times n (map f gs)
 any-times f n [] h = cc h
-any-times f n (g ∷ gs) h = elim (eqb_tells n (f g)) [
-  | inl w ↦
-      let one : ◌≡◌ {A = ℕ} (cond (eqb (f g) n) 1 0) 1 = ap {B = ℕ} (λ q. cond q 1 0) (eq-eqb (f g) n (sym w.1)) in
-      omega (arith, times-cons n (f g) (map f gs), one)
-  | inr w ↦ omega (arith, times-cons n (f g) (map f gs), any-times f n gs (rw w.0 at h))
-]
+any-times f n (g ∷ gs) h = grind (arith, nat_tests, h, times-cons n (f g) (map f gs), any-times f n gs)
 
 none-times : (f : Granted → ℕ) (n : ℕ) (gs : List Granted) → list_any (λ g. n == f g) gs ≡ false → times n (map f gs) ≡ 0
 none-times f n [] h = times-nil n
-none-times f n (g ∷ gs) h = elim (eqb_tells n (f g)) [
-  | inl w ↦ cc (rw w.0 at h)
-  | inr w ↦
-      let none : ◌≡◌ {A = ℕ} (cond (eqb (f g) n) 1 0) 0 = ap {B = ℕ} (λ q. cond q 1 0) (ne_eqb (f g) n (λ x. w.1 (sym x))) in
-      omega (arith, times-cons n (f g) (map f gs), none, none-times f n gs (rw w.0 at h))
-]
+none-times f n (g ∷ gs) h = grind (arith, nat_tests, h, times-cons n (f g) (map f gs), none-times f n gs)
 
 -- of two causes none, where the first of them is none
 first_none : (a b : Option GrantCause) → first_cause a b ≡ None → (a ≡ None) × (b ≡ None)
@@ -41,12 +31,7 @@ first_none None b e = (refl, e)
 
 twice-none : (before : List Granted) (g : Granted) → twice_cause before g ≡ None → has_client g.client (of_epoch g.epoch before) ≡ false
 unfolding twice_cause
-twice-none before g = each (has_client g.client (of_epoch g.epoch before))
-  where
-    each : (b : Bool) → (if b then Some cause.DuplicateClient else if has_name g.name (of_epoch g.epoch before) then Some
-        cause.DuplicateName else None) ≡ None → b ≡ false
-    each true e = absurd (none-some _ (sym e))
-    each false e = refl
+twice-none before g none = grind (arith, none)
 
 -- no client stands twice in an epoch
 abbrev pub AreOnce : List Granted → Type 0
@@ -66,25 +51,11 @@ once-next most before g once none e n = elim (eqb_tells g.epoch e) [
     here : g.epoch ≡ e → times n (map (λ (g : Granted). g.client) (of_epoch e before ++ g ∷ [])) ≤ 1
     here same =
         let clients : List ℕ = map (λ (g : Granted). g.client) (of_epoch e before) in
-        let more : times n (map (λ (g : Granted). g.client) (of_epoch e before ++ g ∷ [])) ≡ times n clients + cond (eqb g.client n) 1 0 =
-        omega (
-          arith,
-          ap (times n) (map-append (λ (g : Granted). g.client) (of_epoch e before) (g ∷ [])),
-          times-append n clients (g.client ∷ []),
-          times-cons n g.client [],
-          times-nil n,
-        ) in
-        elim (eqb_tells g.client n) [
-          | inl w ↦
-              let none : times n clients ≡ 0 =
-              (λ i. times (sym w.1 i) (map (λ (g : Granted). g.client) (of_epoch (sym same i) before)))
-              ∙ none-times (λ g. g.client) g.client (of_epoch g.epoch before) free in
-              let one : ◌≡◌ {A = ℕ} (cond (eqb g.client n) 1 0) 1 = ap {B = ℕ} (λ q. cond q 1 0) w.0 in
-              omega (arith, more, none, one)
-          | inr w ↦
-              let other : ◌≡◌ {A = ℕ} (cond (eqb g.client n) 1 0) 0 = ap {B = ℕ} (λ q. cond q 1 0) w.0 in
-              omega (arith, more, once e n, other)
-        ]
+        let none : times g.client clients ≡ 0 =
+        (λ i. times g.client (map (λ (g : Granted). g.client) (of_epoch (sym same i) before)))
+        ∙ none-times (λ g. g.client) g.client (of_epoch g.epoch before) free in
+        rw (map-append (λ (g : Granted). g.client) (of_epoch e before) (g ∷ []))
+        (grind (arith, nat_tests, none, once e n, times-append n clients (g.client ∷ []), times-cons n g.client [], times-nil n))
 
 -- a cause that another implies
 module _ (header : Record → Option GrantCause) (one other : List Record → Record → Option GrantCause) where
@@ -139,25 +110,20 @@ module _ (gb gm : List Granted) (g : Granted) (tight : AreTightGrants (of_epoch 
 
   first_time : (f : Granted → ℕ) → times (f g) (map f (of_epoch g.epoch (gb ++ g ∷ gm))) ≤ 1
       → list_any (λ x. f g == f x) (of_epoch g.epoch gb) ≡ false
-  first_time f most = each (list_any (λ x. f g == f x) (of_epoch g.epoch gb)) refl
-    where
-      each : (b : Bool) → list_any (λ x. f g == f x) (of_epoch g.epoch gb) ≡ b → list_any (λ x. f g == f x) (of_epoch g.epoch gb) ≡ false
-      each false e = e
-      each true e =
-          let whole : times (f g) (map f (of_epoch g.epoch (gb ++ g ∷ gm)))
-          ≡ times (f g) (map f (of_epoch g.epoch gb) ++ f g ∷ map f (of_epoch g.epoch gm)) =
-          ap (λ (l : List Granted). times (f g) (map f l)) around
-          ∙ ap (times (f g)) (map-append f (of_epoch g.epoch gb) (g ∷ of_epoch g.epoch gm)) in
-          let one : ◌≡◌ {A = ℕ} (cond (eqb (f g) (f g)) 1 0) 1 = ap {B = ℕ} (λ q. cond q 1 0) (eq-eqb (f g) (f g) refl) in
-          absurd (omega (
-            arith,
-            most,
-            whole,
-            one,
-            any-times f (f g) (of_epoch g.epoch gb) e,
-            times-append (f g) (map f (of_epoch g.epoch gb)) (f g ∷ map f (of_epoch g.epoch gm)),
-            times-cons (f g) (f g) (map f (of_epoch g.epoch gm)),
-          ))
+  first_time f most =
+      let whole : times (f g) (map f (of_epoch g.epoch (gb ++ g ∷ gm)))
+      ≡ times (f g) (map f (of_epoch g.epoch gb) ++ f g ∷ map f (of_epoch g.epoch gm)) =
+      ap (λ (l : List Granted). times (f g) (map f l)) around
+      ∙ ap (times (f g)) (map-append f (of_epoch g.epoch gb) (g ∷ of_epoch g.epoch gm)) in
+      grind (
+        arith,
+        nat_tests,
+        most,
+        whole,
+        any-times f (f g) (of_epoch g.epoch gb),
+        times-append (f g) (map f (of_epoch g.epoch gb)) (f g ∷ map f (of_epoch g.epoch gm)),
+        times-cons (f g) (f g) (map f (of_epoch g.epoch gm)),
+      )
 
   no-twice : twice_cause gb g ≡ None
   unfolding twice_cause
@@ -230,33 +196,22 @@ tight-full grants t n h e =
       once-there (length grants) n h,
     )
 
-no_first : (most : ℕ) (records : List Record) (at : ℕ) (why : GrantCause) → (IsOfReading why → ⊥) → IsFirstWithCause most records at why
-    → IsTightList most records → ⊥
-no_first most records at why inside fault t =
+no_first : (most : ℕ) (records : List Record) (at : ℕ) (why : GrantCause) → why ≢ cause.Read → why ≢ cause.Memory
+    → IsFirstWithCause most records at why → IsTightList most records → ⊥
+no_first most records at why unread some fault t =
     elim fault.reported [
       | inl e ↦ none-some why (sym (tight-clean most records t at) ∙ e)
-      | inr other ↦ inside other
+      | inr (inl e) ↦ unread e
+      | inr (inr e) ↦ some e
     ]
-
-is-form : IsOfReading cause.Form → ⊥
-is-form (inl e) = cc e
-is-form (inr e) = cc e
-
-is-client : IsOfReading cause.DuplicateClient → ⊥
-is-client (inl e) = cc e
-is-client (inr e) = cc e
-
-is_name : IsOfReading cause.DuplicateName → ⊥
-is_name (inl e) = cc e
-is_name (inr e) = cc e
 
 -- a tight list has no flaw but a failed read and want of memory
 pub tight-flaw : (most : ℕ) (records : List Record) (flaw : Flaw) → IsFlaw most records flaw → IsTightList most records → IsOutside flaw
 tight-flaw most records (Read at) h t = tt
 tight-flaw most records Memory h t = tt
-tight-flaw most records (Form at) h t = no_first most records at cause.Form is-form h t
-tight-flaw most records (DuplicateClient at) h t = no_first most records at cause.DuplicateClient is-client h t
-tight-flaw most records (DuplicateName at) h t = no_first most records at cause.DuplicateName is_name h t
+tight-flaw most records (Form at) h t = no_first most records at cause.Form (λ e. cc e) (λ e. cc e) h t
+tight-flaw most records (DuplicateClient at) h t = no_first most records at cause.DuplicateClient (λ e. cc e) (λ e. cc e) h t
+tight-flaw most records (DuplicateName at) h t = no_first most records at cause.DuplicateName (λ e. cc e) (λ e. cc e) h t
 tight-flaw most records (Gap epoch name) h t =
     tight-full (of_epoch epoch (grants_spelled (drop 1 records))) (t.tight epoch) name h.1.lacks.0 h.1.lacks.1
 

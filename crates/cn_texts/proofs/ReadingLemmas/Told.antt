@@ -1,27 +1,18 @@
 -- Causes that say why a reader stopped.
-use Rattle.cn_texts.proofs.Common.{◌≡◌, ◌∙◌, ◌∷◌, [], ℕ, ap, Bool, List, Option, Some, None, Err, cond, false, inl, inr, refl, sym, true, Record}
+use Rattle.cn_texts.proofs.Common.{◌≡◌, ◌∙◌, ℕ, ap, Bool, false, inl, inr, refl, subst, sym, true}
 use Rattle.csv.specs.Reading.{has_failed, reader_source}
 use Rattle.csv.specs.declared.reader.Reader.{Reader}
-use Rattle.std.specs.Prelude.{codes}
-use Rattle.std.specs.Str.{bytes_eq}
 use Rattle.cn_texts.specs.Grants.TightList.{IsFlawTold, IsRepeatFlaw, flaw_of, grant_cause_of_fault}
 use Rattle.cn_texts.specs.declared.grants.record.Flaw.{Flaw}
 use Rattle.cn_texts.specs.declared.grants.record.Flaw.TheVariants as flaws
 use Rattle.cn_texts.specs.declared.grants.record.GrantCause.{GrantCause}
 use Rattle.cn_texts.specs.declared.grants.record.GrantCause.TheVariants as grants
-use Rattle.cn_texts.specs.Reading.Arrival.{arrival_in, arriving, arrival_with_entry, entry_by_rule, ruled_arrival}
 use Rattle.cn_texts.specs.Reading.Batch.{batch_cause_of_fault}
-use Rattle.cn_texts.specs.Reading.Command.{command_in, entering, spelled, stepping, turning}
-use Rattle.cn_texts.specs.Reading.Number.{number_in}
 use Rattle.cn_texts.specs.Reading.Records.{HasStopped, IsTold, fault_by}
-use Rattle.cn_texts.specs.declared.reading.batch.arrival.Heading.{Heading}
-use Rattle.cn_texts.specs.declared.reading.batch.arrival.Heading.TheVariants.{WithEntry, ByRule}
 use Rattle.cn_texts.specs.declared.reading.batch_fault.BatchCause.{BatchCause}
 use Rattle.cn_texts.specs.declared.reading.batch_fault.BatchCause.TheVariants as batch
-use Rattle.cn_texts.specs.declared.reading.bounds.Bounds.{Bounds}
 use Rattle.cn_texts.specs.declared.reading.records.RecordFault.{RecordFault}
 use Rattle.cn_texts.specs.declared.reading.records.RecordFault.TheVariants.{Read}
-use Rattle.cn_texts.specs.declared.reading.schedule_fault.ScheduleCause.TheVariants as schedule
 
 -- the cause of the fault that a reader stopped with
 pub told : {R Cause : Type 0} {failed : R → Bool} {reader : Reader R} (cause_of : RecordFault → Cause) (fault : RecordFault)
@@ -47,59 +38,6 @@ read-stops {failed = failed} {reader = reader} cause is e =
     let stopped = is.read e in
     record { stopped = stopped; why = fault-read (failed (reader_source reader)) (sym e ∙ is.stopped stopped) }
 
--- ---- what a record spells is no failed read
-
-entering-other : (client wire : Option ℕ) → entering client wire ≡ Err schedule.Read → ⊥
-entering-other None wire e = cc e
-entering-other (Some client) None e = cc e
-entering-other (Some client) (Some wire) e = cc e
-
-stepping-other : (client : Option ℕ) (wire : List ℕ) → stepping client wire ≡ Err schedule.Read → ⊥
-stepping-other None wire e = cc e
-stepping-other (Some client) [] e = cc e
-stepping-other (Some client) (byte ∷ wire) e = cc e
-
-turning-other : (client wire : List ℕ) → turning client wire ≡ Err schedule.Read → ⊥
-turning-other (byte ∷ client) wire e = cc e
-turning-other [] (byte ∷ wire) e = cc e
-turning-other [] [] e = cc e
-
-spelled-other : (enters steps turns : Bool) (client wire : List ℕ)
-    → cond enters (entering (number_in client) (number_in wire)) (cond steps (stepping (number_in client) wire)
-    (cond turns (turning client wire) (Err schedule.Op))) ≡ Err schedule.Read → ⊥
-spelled-other true steps turns client wire e = entering-other (number_in client) (number_in wire) e
-spelled-other false true turns client wire e = stepping-other (number_in client) wire e
-spelled-other false false true client wire e = turning-other client wire e
-spelled-other false false false client wire e = cc e
-
-pub command-other : (fields : Record) → command_in fields ≡ Err schedule.Read → ⊥
-unfolding command_in spelled
-command-other [] e = cc e
-command-other (op ∷ []) e = cc e
-command-other (op ∷ client ∷ []) e = cc e
-command-other (op ∷ client ∷ wire ∷ []) e =
-    spelled-other (bytes_eq op (codes "enter")) (bytes_eq op (codes "step")) (bytes_eq op (codes "turn")) client wire e
-command-other (op ∷ client ∷ wire ∷ more ∷ others) e = cc e
-
-arriving-other : (epoch client entry : Option ℕ) → arriving epoch client entry ≡ Err batch.Read → ⊥
-arriving-other None client entry e = cc e
-arriving-other (Some epoch) None entry e = cc e
-arriving-other (Some epoch) (Some client) None e = cc e
-arriving-other (Some epoch) (Some client) (Some entry) e = cc e
-
-pub arrival-other : (heading : Heading) (bounds : Bounds) (fields : Record) → arrival_in heading bounds fields ≡ Err batch.Read → ⊥
-unfolding arrival_with_entry ruled_arrival
-arrival-other WithEntry bounds [] e = cc e
-arrival-other WithEntry bounds (epoch ∷ []) e = cc e
-arrival-other WithEntry bounds (epoch ∷ client ∷ []) e = cc e
-arrival-other WithEntry bounds (epoch ∷ client ∷ entry ∷ []) e = arriving-other (number_in epoch) (number_in client) (number_in entry) e
-arrival-other WithEntry bounds (epoch ∷ client ∷ entry ∷ more ∷ others) e = cc e
-arrival-other ByRule bounds [] e = cc e
-arrival-other ByRule bounds (epoch ∷ []) e = cc e
-arrival-other ByRule bounds (epoch ∷ client ∷ []) e =
-    arriving-other (number_in epoch) (number_in client) (entry_by_rule bounds.entries (number_in client)) e
-arrival-other ByRule bounds (epoch ∷ client ∷ more ∷ others) e = cc e
-
 -- ---- the flaw of a grant list
 
 flaw-read : (at n : ℕ) (cause : GrantCause) → flaw_of at cause ≡ flaws.Read n → cause ≡ grants.Read
@@ -120,11 +58,7 @@ flaw-told at cause is = record {
 -- a record before has a client or a name twice
 pub repeat-told : {R : Type 0} (failed : R → Bool) (reader : Reader R) (flaw : Flaw) → IsRepeatFlaw flaw
     → IsFlawTold failed reader flaw
-repeat-told failed reader flaw (at, is) = record {
-  at = at;
-  stopped = λ stops. inr (at, is);
-  read = λ n e. absurd (elim is [ inl client ↦ cc (sym client ∙ e) | inr name ↦ cc (sym name ∙ e) ]);
-}
+repeat-told failed reader flaw is = record { at = 0; stopped = λ stops. inr is; read = λ n e. absurd (subst IsRepeatFlaw e is) }
 
 pub end-told : {R : Type 0} (failed : R → Bool) (reader : Reader R) (flaw : Flaw) → has_failed reader ≡ false
     → ((n : ℕ) → flaw ≡ flaws.Read n → ⊥) → IsFlawTold failed reader flaw

@@ -1,4 +1,4 @@
--- Answers, and the lines that they have, place by place.
+-- Answers that have the same lines.
 use Rattle.cn_texts.proofs.Common.{◌≡◌, ◌<◌, ◌∙◌, ℕ, List, [], ◌∷◌, ◌++◌, refl, ap₂, arith, get_or, length, suc, zero, AllZip}
 use Rattle.cn_ledger.specs.declared.answer.Answer.{Answer}
 use Rattle.cn_ledger.specs.declared.command.Command.{Command}
@@ -15,12 +15,3 @@ lines-by R width same (command ∷ commands) (answer ∷ answers) (other ∷ oth
     ap₂ (λ (xs ys : List ℕ). xs ++ ys) (same answer other here command) (lines-by R width same commands answers others later)
 lines-by R width same (command ∷ commands) [] (other ∷ others) all = absurd all
 lines-by R width same (command ∷ commands) (answer ∷ answers) [] all = absurd all
-
--- what holds place by place holds at each place
-pub zipped_at : {A B : Type 0} (R : A → B → Type 0) (xs : List A) (ys : List B) (i : ℕ) (d : A) (e : B) → AllZip R xs ys → i < length ys
-    → R (get_or xs i d) (get_or ys i e)
-zipped_at R [] [] i d e all h = absurd (omega arith)
-zipped_at R [] (y ∷ ys) i d e all h = absurd all
-zipped_at R (x ∷ xs) [] i d e all h = absurd all
-zipped_at R (x ∷ xs) (y ∷ ys) zero d e all h = all.0
-zipped_at R (x ∷ xs) (y ∷ ys) (suc i) d e all h = zipped_at R xs ys i d e all.1 (omega arith)

@@ -41,7 +41,9 @@ flaw_of at cause.Memory = Memory
 
 -- a client or a name stands at an earlier record
 abbrev pub IsRepeatFlaw : Flaw → Type 0
-IsRepeatFlaw flaw = (at : ℕ) × ((flaw ≡ DuplicateClient at) ⊎ (flaw ≡ DuplicateName at))
+IsRepeatFlaw (DuplicateClient at) = ⊤
+IsRepeatFlaw (DuplicateName at) = ⊤
+IsRepeatFlaw flaw = ⊥
 
 -- the flaw says why this reader has stopped, at some record, if it has, or that a client or a name stands at an earlier
 -- record; and a failed read is said only if the reader has stopped
@@ -93,10 +95,7 @@ pub record IsGap (grants : List Granted) (epoch name : ℕ) : Type 0 where
 abbrev pub IsEndFlaw : List Granted → Flaw → Type 0
 IsEndFlaw grants (Gap epoch name) = IsGap grants epoch name
 IsEndFlaw grants Memory = ⊤
-IsEndFlaw grants (Read at) = ⊥
-IsEndFlaw grants (Form at) = ⊥
-IsEndFlaw grants (DuplicateClient at) = ⊥
-IsEndFlaw grants (DuplicateName at) = ⊥
+IsEndFlaw grants flaw = ⊥
 
 -- the record has this cause, and it is the first with one
 abbrev pub IsFirstWithCause : ℕ → List Record → ℕ → GrantCause → Type 0
@@ -116,10 +115,7 @@ IsFlaw most records Memory = ⊤
 abbrev pub IsOutside : Flaw → Type 0
 IsOutside (Read at) = ⊤
 IsOutside Memory = ⊤
-IsOutside (Form at) = ⊥
-IsOutside (DuplicateClient at) = ⊥
-IsOutside (DuplicateName at) = ⊥
-IsOutside (Gap epoch name) = ⊥
+IsOutside flaw = ⊥
 
 -- these grants of one epoch pair distinct clients with the names below their number, each once
 pub record AreTightGrants (grants : List Granted) : Type 0 where

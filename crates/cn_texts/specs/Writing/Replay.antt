@@ -1,6 +1,6 @@
 -- The text of a replay: the heading, the lines of each command and its answer, and the end line.
 use Rattle.std.specs.Prelude.{ℕ, ◌≡◌, ◌≤◌, List, [], ◌∷◌, ◌++◌, codes, decimal, length}
-use Rattle.std.specs.List.{AllZip, flat_map, zip}
+use Rattle.std.specs.List.{flat_map, zip}
 use Rattle.cn_spec.specs.Step.{shares_after}
 use Rattle.cn_spec.specs.declared.limits.TheConstants.{MOST_ARRIVALS}
 use Rattle.cn_ledger.specs.declared.reply.EnterFault.TheVariants.{NoSuchEntry, AlreadyIn, EpochFull}
@@ -18,32 +18,6 @@ use Rattle.cn_ledger.specs.declared.record.EpochRecord.{EpochRecord}
 use Rattle.cn_tables.specs.Network.{Network}
 use Rattle.cn_texts.specs.Writing.Outcome.{exit_lines, name_lines}
 use Rattle.cn_texts.specs.Writing.Text.{heading, line}
-
--- an enter is entered or refused
-abbrev pub IsEnterReply : Reply → Type 0
-IsEnterReply Entered = Unit {0}
-IsEnterReply (EnterRefused fault) = Unit {0}
-IsEnterReply (Stepped moved) = ⊥
-IsEnterReply (StepRefused fault) = ⊥
-
--- a step is taken or refused
-abbrev pub IsStepReply : Reply → Type 0
-IsStepReply (Stepped moved) = Unit {0}
-IsStepReply (StepRefused fault) = Unit {0}
-IsStepReply Entered = ⊥
-IsStepReply (EnterRefused fault) = ⊥
-
--- an enter or a step has a reply of its own, and a turn is done or refused
-abbrev pub Fits : Command → Answer → Type 0
-Fits (Enter client entry) (Replied reply) = IsEnterReply reply
-Fits (Step client) (Replied reply) = IsStepReply reply
-Fits Turn (Turned r) = Unit {0}
-Fits Turn (TurnRefused fault) = Unit {0}
-Fits command answer = ⊥
-
--- the answers fit the commands one by one
-abbrev pub AreAnswers : List Command → List Answer → Type 0
-AreAnswers commands answers = AllZip Fits commands answers
 
 -- where a step of a client led
 unfoldable pub moved_line : ℕ → Moved → List ℕ

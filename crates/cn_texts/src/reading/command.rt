@@ -1,6 +1,6 @@
 //! The command that a record of a schedule spells.
 
-ghost use Rattle.std.specs.Prelude.{◌≡◌};
+ghost use Rattle.std.specs.Prelude.{◌≡◌, ◌≢◌, IfErr};
 ghost use Rattle.csv.specs.Records.{fields_of};
 ghost use Rattle.cn_texts.specs.Reading.Command.{command_in, entering, spelled, stepping, turning};
 ghost use Rattle.cn_texts.specs.Reading.Number.{number_in};
@@ -13,7 +13,8 @@ use csv::ByteRecord;
 
 /// The enter of a client by an entry.
 fn enter_from(client: &[u8], wire: &[u8]) -> Result<Command, ScheduleCause>
-    ensures { result ≡ entering (number_in client.now) (number_in wire.now) }
+    ensures value { result ≡ entering (number_in client.now) (number_in wire.now) }
+    ensures no_read { IfErr result (λ cause. cause ≢ ScheduleCause.Read) }
 {
     let client = number_of(client).ok_or(ScheduleCause::ClientNumber)?;
     let entry = number_of(wire).ok_or(ScheduleCause::WireNumber)?;
@@ -22,7 +23,8 @@ fn enter_from(client: &[u8], wire: &[u8]) -> Result<Command, ScheduleCause>
 
 /// The step of a client, whose record has no wire.
 fn step_from(client: &[u8], wire: &[u8]) -> Result<Command, ScheduleCause>
-    ensures { result ≡ stepping (number_in client.now) wire.now }
+    ensures value { result ≡ stepping (number_in client.now) wire.now }
+    ensures no_read { IfErr result (λ cause. cause ≢ ScheduleCause.Read) }
 {
     let client = number_of(client).ok_or(ScheduleCause::ClientNumber)?;
     if wire.is_empty() {
@@ -34,7 +36,8 @@ fn step_from(client: &[u8], wire: &[u8]) -> Result<Command, ScheduleCause>
 
 /// The turn, whose record has no client and no wire.
 fn turn_from(client: &[u8], wire: &[u8]) -> Result<Command, ScheduleCause>
-    ensures { result ≡ turning client.now wire.now }
+    ensures value { result ≡ turning client.now wire.now }
+    ensures no_read { IfErr result (λ cause. cause ≢ ScheduleCause.Read) }
 {
     if !client.is_empty() {
         Err(ScheduleCause::ClientNumber)
@@ -48,7 +51,8 @@ fn turn_from(client: &[u8], wire: &[u8]) -> Result<Command, ScheduleCause>
 /// The command that three fields spell, as `enter`, `7` and `0`.
 #[tactic(auto, unfolding(crate::specs::Reading::Command::spelled))]
 fn command_from(op: &[u8], client: &[u8], wire: &[u8]) -> Result<Command, ScheduleCause>
-    ensures { result ≡ spelled op.now client.now wire.now }
+    ensures value { result ≡ spelled op.now client.now wire.now }
+    ensures no_read { IfErr result (λ cause. cause ≢ ScheduleCause.Read) }
 {
     if op == b"enter".as_slice() {
         enter_from(client, wire)
@@ -64,7 +68,8 @@ fn command_from(op: &[u8], client: &[u8], wire: &[u8]) -> Result<Command, Schedu
 /// The command of a record.
 #[tactic(auto, using(crate::proofs::ReadingLemmas::RecordFields::command_of_three, crate::proofs::ReadingLemmas::RecordFields::command_of_others))]
 pub(crate) fn command_of(fields: &ByteRecord) -> Result<Command, ScheduleCause>
-    ensures { result ≡ command_in (fields_of fields.now) }
+    ensures value { result ≡ command_in (fields_of fields.now) }
+    ensures no_read { IfErr result (λ cause. cause ≢ ScheduleCause.Read) }
 {
     if fields.len() != 3 {
         return Err(ScheduleCause::FieldCount);

@@ -1,9 +1,7 @@
 //! The lines of enters and steps in a replay.
 
-ghost use Rattle.cn_ledger.specs.Answers.{HadMemory};
-ghost use Rattle.cn_ledger.specs.declared.answer.Answer.{Answer};
 ghost use Rattle.cn_texts.specs.Writing.Pieces.{Puts};
-ghost use Rattle.cn_texts.specs.Writing.Replay.{IsEnterReply, IsStepReply, enter_line, moved_line, step_line};
+ghost use Rattle.cn_texts.specs.Writing.Replay.{enter_line, moved_line, step_line};
 
 use crate::writing::line::{send_line, send_number, send_numbered};
 use crate::writing::pieces::Pieces;
@@ -62,7 +60,7 @@ fn send_moved<W: Write>(pieces: &mut Pieces, writer: &mut W, client: u64, moved:
     }
 }
 
-/// Sends a line as `refused enter 7 AlreadyIn`.
+/// Sends a line as `refused enter 7 AlreadyIn`, and none for want of memory.
 #[tactic(auto, unfolding(crate::specs::Writing::Replay::enter_line))]
 fn send_refused<W: Write>(
     pieces: &mut Pieces,
@@ -71,7 +69,6 @@ fn send_refused<W: Write>(
     entry: u64,
     fault: EnterFault,
 )
-    requires { HadMemory (Answer.Replied (Reply.EnterRefused fault)) }
     ensures { Puts W.contents writer.old writer.new pieces.old pieces.new
         (enter_line client entry (Reply.EnterRefused fault)) }
 {
@@ -85,11 +82,11 @@ fn send_refused<W: Write>(
         EnterFault::EpochFull => {
             send_numbered(pieces, writer, "refused enter ", client, " EpochFull\n");
         }
-        EnterFault::Memory => unreachable!(),
+        EnterFault::Memory => {}
     }
 }
 
-/// Sends the line of an enter and its reply.
+/// Sends the line of an enter and its reply, if it has one.
 #[tactic(auto, unfolding(crate::specs::Writing::Replay::enter_line))]
 pub(crate) fn send_enter<W: Write>(
     pieces: &mut Pieces,
@@ -98,21 +95,18 @@ pub(crate) fn send_enter<W: Write>(
     entry: u64,
     reply: Reply,
 )
-    requires fits { IsEnterReply reply }
-    requires memory { HadMemory (Answer.Replied reply) }
     ensures { Puts W.contents writer.old writer.new pieces.old pieces.new (enter_line client entry reply) }
 {
     match reply {
         Reply::Entered => send_line(pieces, writer, "enter ", client, " wire ", entry),
         Reply::EnterRefused(fault) => send_refused(pieces, writer, client, entry, fault),
-        _ => unreachable!(),
+        Reply::Stepped(_) | Reply::StepRefused(_) => {}
     }
 }
 
-/// Sends the line of a step and its reply.
+/// Sends the line of a step and its reply, if it has one.
 #[tactic(auto, unfolding(crate::specs::Writing::Replay::step_line))]
 pub(crate) fn send_step<W: Write>(pieces: &mut Pieces, writer: &mut W, client: u64, reply: Reply)
-    requires { IsStepReply reply }
     ensures { Puts W.contents writer.old writer.new pieces.old pieces.new (step_line client reply) }
 {
     match reply {
@@ -123,6 +117,6 @@ pub(crate) fn send_step<W: Write>(pieces: &mut Pieces, writer: &mut W, client: u
         Reply::StepRefused(StepFault::HasName(name)) => {
             send_line(pieces, writer, "refused step ", client, " HasName ", name);
         }
-        _ => unreachable!(),
+        Reply::Entered | Reply::EnterRefused(_) => {}
     }
 }

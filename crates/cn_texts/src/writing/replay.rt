@@ -3,10 +3,9 @@
 ghost use Rattle.std.specs.Prelude.{◌≡◌, ◌≤◌};
 ghost use Rattle.std.specs.List.{All};
 ghost use Rattle.cn_spec.specs.declared.limits.TheConstants.{MOST_ENDS};
-ghost use Rattle.cn_ledger.specs.Answers.{HadMemory};
 ghost use Rattle.cn_texts.specs.Writing.Outcome.{exit_lines};
 ghost use Rattle.cn_texts.specs.Writing.Pieces.{Puts, RestsIfFailed, nothing_put};
-ghost use Rattle.cn_texts.specs.Writing.Replay.{AreAnswers, Fits, IsShowable, IsShowableRecord, answer_line, answer_lines, end_line, not_quiet_line, record_lines, replay_text, shown_counts, turn_line};
+ghost use Rattle.cn_texts.specs.Writing.Replay.{IsShowable, IsShowableRecord, answer_line, answer_lines, end_line, not_quiet_line, record_lines, replay_text, shown_counts, turn_line};
 ghost use Rattle.cn_texts.specs.Writing.Written.{First, HasWritten, written_by};
 
 use crate::writing::emitting::EmitFault;
@@ -71,7 +70,8 @@ fn send_not_quiet<W: Write>(pieces: &mut Pieces, writer: &mut W, inside: u64)
     send_numbered(pieces, writer, "refused turn NotQuiet ", inside, "\n");
 }
 
-/// Sends the lines of a command and its answer, unless a write failed.
+/// Sends the lines of a command and its answer, unless a write failed. An answer that does not fit its command, or is
+/// want of memory, has none.
 #[tactic(auto, unfolding(crate::specs::Writing::Replay::answer_line))]
 fn send_answer<W: Write>(
     pieces: &mut Pieces,
@@ -81,8 +81,6 @@ fn send_answer<W: Write>(
     answer: &Answer,
 )
     requires width { width ≤ MOST_ENDS }
-    requires fits { Fits command answer.now }
-    requires memory { HadMemory answer.now }
     requires showable { IsShowable width answer.now }
     ensures puts { Puts W.contents writer.old writer.new pieces.old pieces.new (answer_line width command answer.now) }
     ensures rests { RestsIfFailed writer.old writer.new pieces.old pieces.new }
@@ -101,7 +99,7 @@ fn send_answer<W: Write>(
         (Command::Turn, Answer::TurnRefused(TurnFault::NotQuiet(inside))) => {
             send_not_quiet(pieces, writer, *inside);
         }
-        _ => unreachable!(),
+        _ => {}
     }
 }
 
@@ -114,14 +112,18 @@ fn send_answers<W: Write>(
     answers: &[Answer],
 )
     requires width { width ≤ MOST_ENDS }
-    requires fit { AreAnswers commands.now answers.now }
-    requires memory { All HadMemory answers.now }
     requires showable { All (IsShowable width) answers.now }
     ensures { Puts W.contents writer.old writer.new pieces.old pieces.new
         (answer_lines width commands.now answers.now) }
 {
-    for (position, answer) in answers.iter().enumerate() {
-        send_answer(pieces, writer, width, commands[position], answer);
+    for position in 0..commands.len().min(answers.len()) {
+        send_answer(
+            pieces,
+            writer,
+            width,
+            commands[position],
+            &answers[position],
+        );
     }
 }
 
@@ -141,9 +143,9 @@ fn send_end<W: Write>(pieces: &mut Pieces, writer: &mut W, last: OpenEpoch)
 /// its count, and one for each name and its holder. The end line says how many epochs ended, and how many clients of
 /// the open one entered and are inside.
 ///
-/// The answers fit the commands one by one, and none is want of memory. This holds if they are those of epochs of the
-/// network. The record of a turn may leave out its counts: then the shares of its clients are written, of which there
-/// are at most [`cn_spec::limits::MOST_ARRIVALS`]. It takes no memory.
+/// An answer that does not fit its command, or is want of memory, has no line. The record of a turn may leave out its
+/// counts: then the shares of its clients are written, of which there are at most
+/// [`cn_spec::limits::MOST_ARRIVALS`]. It takes no memory.
 ///
 /// # Errors
 /// `EmitFault` if a write fails, is interrupted or takes no byte: nothing is written after it, and the bytes written
@@ -157,8 +159,6 @@ pub fn write_replay<W: Write>(
     last: OpenEpoch,
 ) -> Result<(), EmitFault>
     requires fresh { pieces ≡ nothing_put }
-    requires fit { AreAnswers commands.now answers.now }
-    requires memory { All HadMemory answers.now }
     requires showable { All (IsShowable network.now.table.width) answers.now }
     ensures { let written = written_by (λ fault. First fault.written) result in
         HasWritten W.contents (λ text. text

@@ -13,6 +13,6 @@ returns-clause-answered c =
         by_history = c.answer-answer.ensures.history;
         memory = memory;
         is_kept = is-kept old c.answer-answer.new.self c.args.command c.answer-answer.result c.without_counts.result none
-            c.state_laws.ensures.few memory c.answer-answer.ensures.event c.without_counts.ensures;
+            c.state_laws.ensures.few c.answer-answer.ensures.event c.without_counts.ensures;
       },
     )

@@ -1,35 +1,18 @@
-use Rattle.std.proofs.Common.{[], None, ap}
+use Rattle.std.proofs.Common.{ap}
 use Rattle.std.proofs.lemmas.Result.{err_from_is_err_and}
-use Rattle.cn_ledger.specs.Answers.{HadMemory}
 use Rattle.cn_texts.proofs.CallerLemmas.{written-map}
-use Rattle.cn_texts.specs.Writing.Replay.{IsShowable}
 use Rattle.cn_texts.specs.Writing.Written.{First}
 use Rattle.cn_epoch.specs.History.{Epochs}
 use Rattle.cn_renamer.specs.Replay.{IsReplayText}
-use Rattle.cn_renamer.proofs.Kept.{all-kept, fit-kept, replay-is}
-use Rattle.cn_renamer.proofs.Replies.{fits_all}
+use Rattle.cn_renamer.proofs.Kept.{all-showable, replay-is}
 use Rattle.cn_renamer.proofs.replaying.write_replayed.Goals as goal
-
-pub write_replay-requires-clause-fit : goal.write_replay-requires-clause-fit
-write_replay-requires-clause-fit g c =
-    let (answers, given) = c.in_ok-kept.ensures.answered in
-    let network = c.args.epochs.now.core.network in
-    rw c.deref.ensures.value (fit-kept network.table.width c.args.commands.now answers c.in_ok-kept.kept.items
-    (fits_all network.table 0 [] None c.args.commands.now answers (given.by_history 0 [] None c.requires.agrees).0) given.are_kept)
-
-pub write_replay-requires-clause-memory : goal.write_replay-requires-clause-memory
-write_replay-requires-clause-memory g c =
-    let (answers, given) = c.in_ok-kept.ensures.answered in
-    rw c.deref.ensures.value (all-kept c.args.epochs.now.core.network.table.width HadMemory (λ answer kept is. is.memory)
-    answers c.in_ok-kept.kept.items given.are_kept)
 
 pub write_replay-requires-clause-showable : goal.write_replay-requires-clause-showable
 write_replay-requires-clause-showable g c =
     let (answers, given) = c.in_ok-kept.ensures.answered in
     let network = ap (λ (e : Epochs). e.core.network) c.requires.begun in
     let width = c.args.network.now.table.width in
-    rw c.deref.ensures.value (all-kept width (IsShowable width) (λ answer kept is. is.showable)
-    answers c.in_ok-kept.kept.items (rw network at given.are_kept))
+    rw c.deref.ensures.value (all-showable width answers c.in_ok-kept.kept.items (rw network at given.are_kept))
 
 pub returns-in_err-write_replay : goal.returns-in_err-write_replay
 returns-in_err-write_replay g c =

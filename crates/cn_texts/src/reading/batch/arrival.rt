@@ -1,6 +1,6 @@
 //! One record of a batch: its header, or an arrival.
 
-ghost use Rattle.std.specs.Prelude.{◌≡◌, ◌<◌};
+ghost use Rattle.std.specs.Prelude.{◌≡◌, ◌≢◌, ◌<◌, IfErr};
 ghost use Rattle.csv.specs.Records.{fields_of};
 ghost use Rattle.cn_texts.specs.Reading.Arrival.{arrival_in, arrival_with_entry, arriving, entry_by_rule, ruled_arrival};
 ghost use Rattle.cn_texts.specs.Reading.Heading.{heading_of};
@@ -47,7 +47,8 @@ pub struct Arrival {
 
 /// The arrival that three fields spell. The first that is no number is the cause.
 fn arrival_from(epoch: &[u8], client: &[u8], entry: &[u8]) -> Result<Arrival, BatchCause>
-    ensures { result ≡ arriving (number_in epoch.now) (number_in client.now) (number_in entry.now) }
+    ensures value { result ≡ arriving (number_in epoch.now) (number_in client.now) (number_in entry.now) }
+    ensures no_read { IfErr result (λ cause. cause ≢ BatchCause.Read) }
 {
     let epoch = number_of(epoch).ok_or(BatchCause::EpochNumber)?;
     let client = number_of(client).ok_or(BatchCause::ClientNumber)?;
@@ -62,7 +63,8 @@ fn arrival_from(epoch: &[u8], client: &[u8], entry: &[u8]) -> Result<Arrival, Ba
 /// The arrival of a record that gives its entry.
 #[tactic(auto, using(crate::proofs::ReadingLemmas::RecordFields::arrival_of_three, crate::proofs::ReadingLemmas::RecordFields::arrival_of_others))]
 fn arrival_with_entry(fields: &ByteRecord) -> Result<Arrival, BatchCause>
-    ensures { result ≡ arrival_with_entry (fields_of fields.now) }
+    ensures value { result ≡ arrival_with_entry (fields_of fields.now) }
+    ensures no_read { IfErr result (λ cause. cause ≢ BatchCause.Read) }
 {
     if fields.len() != 3 {
         return Err(BatchCause::FieldCount);
@@ -73,8 +75,9 @@ fn arrival_with_entry(fields: &ByteRecord) -> Result<Arrival, BatchCause>
 /// The arrival that two fields spell, by the entry that is the identity modulo the entries.
 fn arrival_by_rule(epoch: &[u8], client: &[u8], entries: u32) -> Result<Arrival, BatchCause>
     requires { 0 < entries }
-    ensures { result
+    ensures value { result
         ≡ arriving (number_in epoch.now) (number_in client.now) (entry_by_rule entries (number_in client.now)) }
+    ensures no_read { IfErr result (λ cause. cause ≢ BatchCause.Read) }
 {
     let epoch = number_of(epoch).ok_or(BatchCause::EpochNumber)?;
     let client = number_of(client).ok_or(BatchCause::ClientNumber)?;
@@ -89,7 +92,8 @@ fn arrival_by_rule(epoch: &[u8], client: &[u8], entries: u32) -> Result<Arrival,
 #[tactic(auto, using(crate::proofs::ReadingLemmas::RecordFields::arrival_of_two, crate::proofs::ReadingLemmas::RecordFields::ruled_of_others))]
 fn ruled_arrival(fields: &ByteRecord, entries: u32) -> Result<Arrival, BatchCause>
     requires { 0 < entries }
-    ensures { result ≡ ruled_arrival entries (fields_of fields.now) }
+    ensures value { result ≡ ruled_arrival entries (fields_of fields.now) }
+    ensures no_read { IfErr result (λ cause. cause ≢ BatchCause.Read) }
 {
     if fields.len() != 2 {
         return Err(BatchCause::FieldCount);
@@ -104,7 +108,8 @@ pub(crate) fn arrival_of(
     bounds: Bounds,
 ) -> Result<Arrival, BatchCause>
     requires { 0 < bounds.entries }
-    ensures { result ≡ arrival_in heading bounds (fields_of fields.now) }
+    ensures value { result ≡ arrival_in heading bounds (fields_of fields.now) }
+    ensures no_read { IfErr result (λ cause. cause ≢ BatchCause.Read) }
 {
     match heading {
         Heading::WithEntry => arrival_with_entry(fields),

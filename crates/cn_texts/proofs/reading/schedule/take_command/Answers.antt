@@ -1,8 +1,8 @@
-use Rattle.cn_texts.proofs.Common.{◌≡◌, ◌∙◌, ap, sym, Err, true, refl, inl, nat_lt, lt-ltb, MOST_RECORDS}
+use Rattle.cn_texts.proofs.Common.{◌≡◌, true, refl, inl, nat_lt, lt-ltb, MOST_RECORDS}
 use Rattle.std.proofs.lemmas.Result.{err_from_is_err_and}
 use Rattle.csv.specs.Records.{fields_of}
 use Rattle.cn_texts.specs.Reading.Schedule.{cause_of_fault}
-use Rattle.cn_texts.proofs.ReadingLemmas.Told.{command-other, told-other}
+use Rattle.cn_texts.proofs.ReadingLemmas.Told.{told-other}
 use Rattle.cn_texts.proofs.reading.schedule.take_command.Goals as goal
 
 pub returns-then-not-branch-clause-found : goal.returns-then-not-branch-clause-found
@@ -16,7 +16,7 @@ returns-in_err-command-clause-refused g c =
     inl (
       fields_of c.next_record.new.fields,
       rw c.if-not-branch.false at (c.in_ok-next_record.ensures.reads text before read),
-      rw (← c.command_of.ensures, c.in_err-command.was) refl,
+      rw (← c.command_of.ensures.value, c.in_err-command.was) refl,
     ))
 
 pub returns-then-at-gt-MOST_RECORDS-clause-refused : goal.returns-then-at-gt-MOST_RECORDS-clause-refused
@@ -25,11 +25,10 @@ returns-then-at-gt-MOST_RECORDS-clause-refused g c = λ text before read.
     inl (
       fields_of c.next_record.new.fields,
       rw c.if-not-branch.false at (c.in_ok-next_record.ensures.reads text before read),
-      rw (← c.in_ok-command.ensures, full) refl,
+      rw (← c.in_ok-command.ensures.value, full) refl,
     )
 
 pub returns-in_err-command-clause-told : goal.returns-in_err-command-clause-told
 returns-in_err-command-clause-told g c =
     let reported = err_from_is_err_and c.from_residual-in_err-command.result c.from_residual-in_err-command.ensures.1 in
-    rw (reported.1, reported.2) (told-other cause_of_fault _ c.in_ok-next_record.ensures.plain.going
-    (λ is. command-other (fields_of c.next_record.new.fields) (sym c.command_of.ensures ∙ c.in_err-command.was ∙ ap Err is)))
+    rw (reported.1, reported.2) (told-other cause_of_fault _ c.in_ok-next_record.ensures.plain.going c.in_err-command.ensures.no_read)

@@ -1,4 +1,4 @@
-use Rattle.cn_texts.proofs.Common.{◌∙◌, ◌≡◌, ℕ, List, None, Some, ap, arith, inl, inr, length, map, refl}
+use Rattle.cn_texts.proofs.Common.{◌∙◌, ◌≡◌, ℕ, List, None, Some, ap, arith, length, map}
 use Rattle.std.proofs.lemmas.List.{with_items_is}
 use Rattle.std.proofs.lemmas.List.Sorted.{length_permutation}
 use Rattle.cn_texts.specs.Grants.Occurrences.{has_number, numbers_of}
@@ -33,17 +33,11 @@ returns-in-None-Some-clause-twice c = λ earlier latest held.
     (rw c.in-None-Some.is-1 at (c.first_repeat-name.ensures.first _ (c.as_mut_slice-2.ensures.value ∙ held.names)))
     (rw c.in-None-Some.is-0 at (c.first_repeat-client.ensures.first _ (c.as_mut_slice.ensures.value ∙ held.clients))) tt)
 
-pub returns-in-None-Some-clause-own : goal.returns-in-None-Some-clause-own
-returns-in-None-Some-clause-own c = (_, inr refl)
-
 pub returns-in-Some-None-clause-twice : goal.returns-in-Some-None-clause-twice
 returns-in-Some-None-clause-twice c = λ earlier latest held.
     rw c.from-in-Some-None.ensures (client-twice c.args.self.now earlier latest held c.in-Some-None.client None
     (rw c.in-Some-None.is-0 at (c.first_repeat-client.ensures.first _ (c.as_mut_slice.ensures.value ∙ held.clients)))
     (rw c.in-Some-None.is-1 at (c.first_repeat-name.ensures.first _ (c.as_mut_slice-2.ensures.value ∙ held.names))) tt)
-
-pub returns-in-Some-None-clause-own : goal.returns-in-Some-None-clause-own
-returns-in-Some-None-clause-own c = (_, inl refl)
 
 pub returns-in-Some-Some-clause-twice : goal.returns-in-Some-Some-clause-twice
 returns-in-Some-Some-clause-twice c = λ earlier latest held.
@@ -52,15 +46,9 @@ returns-in-Some-Some-clause-twice c = λ earlier latest held.
     (rw c.in-Some-Some.is-0 at (c.first_repeat-client.ensures.first _ (c.as_mut_slice.ensures.value ∙ held.clients)))
     (omega (arith, c.if-name-client.true)))
 
-pub returns-in-Some-Some-clause-own : goal.returns-in-Some-Some-clause-own
-returns-in-Some-Some-clause-own c = (_, inr refl)
-
 pub returns-in-Some-Some-2-clause-twice : goal.returns-in-Some-Some-2-clause-twice
 returns-in-Some-Some-2-clause-twice c = λ earlier latest held.
     rw c.from-in-Some-Some-2.ensures (client-twice c.args.self.now earlier latest held c.in-Some-Some.client (Some c.in-Some-Some.name)
     (rw c.in-Some-Some.is-0 at (c.first_repeat-client.ensures.first _ (c.as_mut_slice.ensures.value ∙ held.clients)))
     (rw c.in-Some-Some.is-1 at (c.first_repeat-name.ensures.first _ (c.as_mut_slice-2.ensures.value ∙ held.names)))
     (omega (arith, c.if-name-client.false)))
-
-pub returns-in-Some-Some-2-clause-own : goal.returns-in-Some-Some-2-clause-own
-returns-in-Some-Some-2-clause-own c = (_, inl refl)

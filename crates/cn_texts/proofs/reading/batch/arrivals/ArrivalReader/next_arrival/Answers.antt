@@ -1,8 +1,8 @@
-use Rattle.cn_texts.proofs.Common.{◌∙◌, ap, sym, Err, refl, inl}
+use Rattle.cn_texts.proofs.Common.{refl, inl}
 use Rattle.std.proofs.lemmas.Result.{err_from_is_err_and}
 use Rattle.csv.specs.Records.{fields_of}
 use Rattle.cn_texts.specs.Reading.Batch.{batch_cause_of_fault}
-use Rattle.cn_texts.proofs.ReadingLemmas.Told.{arrival-other, told-other}
+use Rattle.cn_texts.proofs.ReadingLemmas.Told.{told-other}
 use Rattle.cn_texts.proofs.reading.batch.arrivals.ArrivalReader.next_arrival.Goals as goal
 
 pub returns-then-not-branch-clause-next : goal.returns-then-not-branch-clause-next
@@ -16,12 +16,11 @@ returns-in_err-arrival_of-clause-refused g c =
     inl (
       fields_of c.next_record.new.fields,
       rw c.if-not-branch.false at (rw c.deref_mut.ensures.value at c.in_ok-next_record.ensures.reads text before read),
-      rw (← c.arrival_of.ensures, c.in_err-arrival_of.was) refl,
+      rw (← c.arrival_of.ensures.value, c.in_err-arrival_of.was) refl,
     ))
 
 pub returns-in_err-arrival_of-clause-told : goal.returns-in_err-arrival_of-clause-told
 returns-in_err-arrival_of-clause-told g c =
     let reported = err_from_is_err_and c.from_residual-in_err-arrival_of.result c.from_residual-in_err-arrival_of.ensures.1 in
     rw (reported.1, reported.2) (told-other batch_cause_of_fault _ c.in_ok-next_record.ensures.plain.going
-    (λ is. arrival-other c.args.self.now.heading c.args.self.now.bounds (fields_of c.next_record.new.fields)
-    (sym c.arrival_of.ensures ∙ c.in_err-arrival_of.was ∙ ap Err is)))
+    c.in_err-arrival_of.ensures.no_read)
