@@ -211,8 +211,8 @@ impl<'a> Floor<'a> {
         }
     }
 
-    /// A floor that goes on from these words, and its one post, which has the whole quota. If it gets no memory the words
-    /// come back.
+    /// A floor that goes on from these words, and its one post, which has the whole quota. If it gets no memory the
+    /// words come back.
     pub fn lay(alloc: Global, words: Words<'a>, quota: u64) -> Result<(Floor<'a>, Post), Words<'a>>
         requires few { (client_count words ≤ MOST_TAKEN) × (quota ≤ MOST_TAKEN) }
         ensures floor { IfOk result (λ r. r.0.start ≡ start_after words.entry quota) }

@@ -94,13 +94,14 @@ pass_all-requires-in-Balancer g t c _ (notes, party) =
     let here = c.let_by-end.ensures.home ∙ c.requires.own in
     let many = ap length next.are ∙ dealt.1 ∙ ap (λ (n : ℕ). (n + c.output_of-output.result) / 2) c.requires.many in
     let dealt-on = (c.deal-upper.ensures _ _ c.requires.party).1 in
-    let are = subst (g.P.Party.Are (g.P.Party.kept c.args.notes.now) c.deal-upper.result.1 _) (sym next.are) dealt-on in (
+    let are = subst (g.P.Party.Are (g.P.Party.kept c.args.notes.now) c.deal-upper.result.1 _) (sym next.are) dealt-on in
+    let room = half-fits _ _ _ _ c.output_of-output.ensures c.requires.room in (
       falls-on _ _ _ _ _ _ _ c.decreases (forward go) entries next.low,
       (
         notes,
         (
           party,
-          (here, (next.low, (next.once, (c.requires.network, (many, (are, (next.above, half-fits _ _ _ _ c.output_of-output.ensures c.requires.room))))))),
+          (here, (next.low, (next.once, (c.requires.network, (many, (are, (next.above, room))))))),
         ),
       ),
     )
@@ -117,13 +118,14 @@ pass_all-requires-in-Balancer-2 g t c _ (notes, party) =
     let here = c.pass_all-in-Balancer.ensures.home ∙ c.let_by-end.ensures.home ∙ c.requires.own in
     let many = ap length next.are ∙ dealt.0 ∙ ap (λ (n : ℕ). n - (n + c.output_of-output.result) / 2) c.requires.many in
     let are = subst (g.P.Party.Are (g.P.Party.kept c.pass_all-in-Balancer.new.notes) c.deal-upper.result.0 _) (sym next.are)
-    (rw c.pass_all-in-Balancer.ensures.kept (c.deal-upper.ensures _ _ c.requires.party).0) in (
+    (rw c.pass_all-in-Balancer.ensures.kept (c.deal-upper.ensures _ _ c.requires.party).0) in
+    let room = rest-fit _ _ _ _ c.pass_all-in-Balancer.ensures.room c.requires.room in (
       falls-first _ _ _ _ _ _ c.decreases (forward go) entries next.low,
       (
         notes,
         (
           party,
-          (here, (next.low, (next.once, (c.requires.network, (many, (are, (next.above, rest-fit _ _ _ _ c.pass_all-in-Balancer.ensures.room c.requires.room))))))),
+          (here, (next.low, (next.once, (c.requires.network, (many, (are, (next.above, room))))))),
         ),
       ),
     )

@@ -96,7 +96,8 @@ returns-clause-walked g c =
       );
       enough_steps = λ some. together-deep start clients c.args.entry k v x net walk nobody out many some;
       few_steps = together-steps start clients c.args.entry k v x net walk nobody out many;
-      in_state = λ some. subst (λ (s : Start). StoodInState s x) (came.start ∙ c.post_laws.ensures.start ∙ ap (λ (h : FloorValue). h.start) c.requires.own)
+      in_state = λ some. subst (λ (s : Start). StoodInState s x) (came.start ∙ c.post_laws.ensures.start
+          ∙ ap (λ (h : FloorValue). h.start) c.requires.own)
           (left.in_state (omega (arith, some, stood)));
     }
 

@@ -55,7 +55,8 @@ invariant_of-leftovers c =
     let about : c.args.lane.home.start ≡ start = ap (λ (h : FloorValue). h.start) (c.requires.own ∙ sym c.self.view_is) in
     let before : c.self.inside.before.network ≡ start.network = ap (λ (w : WordsValue). w.network) c.self.invariant.before in
     let wires : length c.lane.inside.yard.lists ≡ length c.self.inside.before.network.table.ends =
-    ap (λ (l : LaneValue). length l.yard.lists) c.lane.view_is ∙ c.lane_laws.ensures.wires ∙ ap (λ (s : Start). length s.network.table.ends) about
+    ap (λ (l : LaneValue). length l.yard.lists) c.lane.view_is ∙ c.lane_laws.ensures.wires
+    ∙ ap (λ (s : Start). length s.network.table.ends) about
     ∙ ap (λ (x : Network). length x.table.ends) (sym before) in
     all-empty c.lane.inside.yard.lists nobody ∙ (λ x. replicate (wires x) [])
 

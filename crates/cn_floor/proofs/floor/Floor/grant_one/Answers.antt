@@ -10,7 +10,9 @@ name_of-requires g c =
     c.width.ensures.value ∙ ap (λ (n : Network). n.table.width) c.requires.network in
     omega (
       arith,
-      name-fits _ _ _ _ _ _ _ c.start_laws.ensures (c.post_laws.ensures.start ∙ ap (λ (h : FloorValue). h.start) c.requires.own) c.walk_through-exit.ensures.walked c.requires.quota,
+      name-fits _ _ _ _ _ _ _ c.start_laws.ensures
+          (c.post_laws.ensures.start ∙ ap (λ (h : FloorValue). h.start) c.requires.own)
+          c.walk_through-exit.ensures.walked c.requires.quota,
       ap (λ (k : ℕ). name_of k c.walk_through-exit.result.0 c.walk_through-exit.result.1) width,
     )
 
@@ -28,4 +30,6 @@ returns-clause-granted g c =
     subst (λ (n : ℕ). IsGranted c.args.self.now.start c.args.client c.args.entry
     (record { client = c.args.client; exit = c.walk_through-exit.result.0; visit = c.walk_through-exit.result.1; name = n })
     c.args.post.now.view c.walk_through-exit.new.post.view)
-    (sym named) (granted _ _ _ _ _ _ _ c.start_laws.ensures (c.post_laws.ensures.start ∙ ap (λ (h : FloorValue). h.start) c.requires.own) c.walk_through-exit.ensures.walked c.requires.quota)
+    (sym named) (granted _ _ _ _ _ _ _ c.start_laws.ensures
+    (c.post_laws.ensures.start ∙ ap (λ (h : FloorValue). h.start) c.requires.own)
+    c.walk_through-exit.ensures.walked c.requires.quota)

@@ -21,7 +21,13 @@ found network at same u n end is (inr e) = inr (ap (λ (x : Network). end_of x.t
 -- before a step
 module _ (g : given.Over) (c : goal.After-step-arg-1 g) where
   there : c.loop-passed.at < length c.args.self.now.start.network.table.ends
-  there = omega (arith, c.loop-passed.invariant.alone.inside, c.loop-passed.invariant.passed.wires, c.post_laws.ensures.wires, ap (λ (h : FloorValue). length h.start.network.table.ends) c.requires.own)
+  there = omega (
+    arith,
+    c.loop-passed.invariant.alone.inside,
+    c.loop-passed.invariant.passed.wires,
+    c.post_laws.ensures.wires,
+    ap (λ (h : FloorValue). length h.start.network.table.ends) c.requires.own,
+  )
 
   is-network : IsNetwork c.args.self.now.start.network
   is-network = subst IsNetwork c.requires.network c.depth-passed-end.ensures.network
@@ -126,7 +132,12 @@ loop-passed-init g c = record {
   alone = c.requires.alone;
   deep = entries-first c.args.self.now.start.network
       (subst IsNetwork c.requires.network c.depth-passed-end.ensures.network) c.args.entry
-      (omega (arith, c.requires.alone.inside, c.post_laws.ensures.wires, ap (λ (h : FloorValue). length h.start.network.table.ends) c.requires.own)) c.requires.entry;
+      (omega (
+        arith,
+        c.requires.alone.inside,
+        c.post_laws.ensures.wires,
+        ap (λ (h : FloorValue). length h.start.network.table.ends) c.requires.own,
+      )) c.requires.entry;
   end = found c.args.self.now.start.network c.args.network.now c.requires.network c.args.entry
       c.number_of-ends_at.result c.end.result c.end.ensures.at c.number_of-ends_at.ensures;
   by = ([], (refl, refl));
@@ -154,7 +165,13 @@ module _ (g : given.Over) (c : goal.After-loop-passed g) where
   at-end = subst IsNetwork c.requires.network c.depth-passed-end.ensures.network
 
   inside : c.loop-passed.at < length c.args.self.now.start.network.table.ends
-  inside = omega (arith, c.loop-passed.invariant.alone.inside, c.loop-passed.invariant.passed.wires, c.post_laws.ensures.wires, ap (λ (h : FloorValue). length h.start.network.table.ends) c.requires.own)
+  inside = omega (
+    arith,
+    c.loop-passed.invariant.alone.inside,
+    c.loop-passed.invariant.passed.wires,
+    c.post_laws.ensures.wires,
+    ap (λ (h : FloorValue). length h.start.network.table.ends) c.requires.own,
+  )
 
   last : end_of c.args.self.now.start.network.table c.loop-passed.at ≡ Exit c.loop-passed.ends_at
   last =

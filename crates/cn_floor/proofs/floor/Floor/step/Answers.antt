@@ -22,7 +22,8 @@ invariant_of-lane c =
     let b : ℕ = c.in-Balancer.balancer in
     let n : ℕ = c.step-number.result in
     let network : v.start.network ≡ c.network-network.result.now =
-    ap (λ (l : LaneValue). l.view.start.network) c.lane.view_is ∙ ap (λ (s : Start). s.network) c.lane_laws.ensures.start ∙ ap (λ (h : FloorValue). h.start.network) c.requires.own
+    ap (λ (l : LaneValue). l.view.start.network) c.lane.view_is ∙ ap (λ (s : Start). s.network) c.lane_laws.ensures.start
+    ∙ ap (λ (h : FloorValue). h.start.network) c.requires.own
     ∙ sym c.network-network.ensures.value in
     let entries : c.entries.result ≡ v.start.network.table.entries =
     c.entries.ensures.value ∙ sym (ap (λ (x : Network). x.table.entries) network) in
@@ -42,7 +43,8 @@ invariant_of-lane-in-Exit c =
     ap (λ (l : LaneValue). l.view.start) c.lane.view_is ∙ c.lane_laws.ensures.start ∙ ap (λ (h : FloorValue). h.start) c.requires.own
     ∙ sym (ap (λ (h : FloorValue). h.start) c.self.view_is) in
     let network : v.start.network ≡ c.network-network.result.now =
-    ap (λ (l : LaneValue). l.view.start.network) c.lane.view_is ∙ ap (λ (s : Start). s.network) c.lane_laws.ensures.start ∙ ap (λ (h : FloorValue). h.start.network) c.requires.own
+    ap (λ (l : LaneValue). l.view.start.network) c.lane.view_is ∙ ap (λ (s : Start). s.network) c.lane_laws.ensures.start
+    ∙ ap (λ (h : FloorValue). h.start.network) c.requires.own
     ∙ sym c.network-network.ensures.value in
     let width : c.width.result ≡ v.start.network.table.width = c.width.ensures.value ∙ sym (ap (λ (x : Network). x.table.width) network) in
     let base_is : c.self.inside.base ≡ base v.start = c.self.invariant.base ∙ sym (ap (λ (s : Start). base s) begun) in
@@ -72,9 +74,12 @@ returns-in-Exit c =
     let at : end_of c.lane.inside.post.home.start.network.table wire ≡ c.end-end.result =
     ap (λ (x : Network). end_of x.table wire) network ∙ c.end-end.ensures.at in
     let out : end_of c.lane.inside.post.home.start.network.table wire ≡ Exit i = at ∙ c.in-Exit.is in
-    let width : c.width.result ≡ c.lane.inside.post.home.start.network.table.width = c.width.ensures.value ∙ sym (ap (λ (x : Network). x.table.width) network) in
-    let base_is : c.self.inside.base ≡ base c.lane.inside.post.home.start = c.self.invariant.base ∙ sym (ap (λ (s : Start). base s) begun) in
-    let name : c.name_of.result - c.self.inside.base ≡ name_of c.lane.inside.post.home.start.network.table.width i n - base c.lane.inside.post.home.start =
+    let width : c.width.result ≡ c.lane.inside.post.home.start.network.table.width =
+    c.width.ensures.value ∙ sym (ap (λ (x : Network). x.table.width) network) in
+    let base_is : c.self.inside.base ≡ base c.lane.inside.post.home.start =
+    c.self.invariant.base ∙ sym (ap (λ (s : Start). base s) begun) in
+    let name : c.name_of.result - c.self.inside.base
+    ≡ name_of c.lane.inside.post.home.start.network.table.width i n - base c.lane.inside.post.home.start =
     (λ x. c.name_of.ensures x - base_is x) ∙ ap (λ (k : ℕ). name_of k i n - base c.lane.inside.post.home.start) width in
     let went : w ≡ after_step token client (Exit i) n v =
     c.step-number.ensures.went.0 ∙ ap (λ (e : End). after_step token client e n v) c.in-Exit.is in

@@ -76,7 +76,8 @@ invariant_of-lane c =
     let v : View = c.lane.inside.post.view in
     let n : ℕ = c.sweep-first.result in
     let network : v.start.network ≡ c.network-network.result.now =
-    ap (λ (l : LaneValue). l.view.start.network) c.lane.view_is ∙ ap (λ (s : Start). s.network) c.lane_laws.ensures.start ∙ ap (λ (h : FloorValue). h.start.network) c.requires.own
+    ap (λ (l : LaneValue). l.view.start.network) c.lane.view_is ∙ ap (λ (s : Start). s.network) c.lane_laws.ensures.start
+    ∙ ap (λ (h : FloorValue). h.start.network) c.requires.own
     ∙ sym c.network-network.ensures.value in
     let b : ℕ = c.in-Balancer.balancer in
     let out : ℕ = c.entries.result + 2 * b in
@@ -97,7 +98,8 @@ invariant_of-lane-in-Exit c =
     ap (λ (l : LaneValue). l.view.start) c.lane.view_is ∙ c.lane_laws.ensures.start ∙ ap (λ (h : FloorValue). h.start) c.requires.own
     ∙ sym (ap (λ (h : FloorValue). h.start) c.self.view_is) in
     let network : v.start.network ≡ c.network-network.result.now =
-    ap (λ (l : LaneValue). l.view.start.network) c.lane.view_is ∙ ap (λ (s : Start). s.network) c.lane_laws.ensures.start ∙ ap (λ (h : FloorValue). h.start.network) c.requires.own
+    ap (λ (l : LaneValue). l.view.start.network) c.lane.view_is ∙ ap (λ (s : Start). s.network) c.lane_laws.ensures.start
+    ∙ ap (λ (h : FloorValue). h.start.network) c.requires.own
     ∙ sym c.network-network.ensures.value in
     let i : ℕ = c.in-Exit.exit in
     let width : c.width-width.result ≡ v.start.network.table.width =
@@ -129,7 +131,8 @@ returns-in-Balancer c =
     ap (λ (x : Network). end_of x.table c.args.wire) network ∙ c.end-end.ensures.at ∙ c.in-Balancer.is in
     let first : out ≡ output_wire c.lane.inside.post.home.start.network.table b 0 = omega (arith, entries) in
     let second : out + 1 ≡ output_wire c.lane.inside.post.home.start.network.table b 1 = omega (arith, entries) in
-    let dealt : IsDealt c.args.wire (n % 2) (output_wire c.lane.inside.post.home.start.network.table b 0) (output_wire c.lane.inside.post.home.start.network.table b 1)
+    let dealt : IsDealt c.args.wire (n % 2) (output_wire c.lane.inside.post.home.start.network.table b 0)
+    (output_wire c.lane.inside.post.home.start.network.table b 1)
     c.lane.inside.yard c.deal.new.self =
     rw (← first, ← second, ← c.output_of.ensures) c.deal.ensures.dealt in
     let many : c.from-tokens.result ≡ length (on c.lane.inside.yard.lists c.args.wire) = c.from-tokens.ensures ∙ c.count.ensures in
@@ -156,7 +159,8 @@ returns-in-Exit c =
     let i : ℕ = c.in-Exit.exit in
     let width : c.width-width.result ≡ c.lane.inside.post.home.start.network.table.width =
     c.width-width.ensures.value ∙ sym (ap (λ (x : Network). x.table.width) network) in
-    let base_is : c.self.inside.base ≡ base c.lane.inside.post.home.start = c.self.invariant.base ∙ sym (ap (λ (s : Start). base s) begun) in
+    let base_is : c.self.inside.base ≡ base c.lane.inside.post.home.start =
+    c.self.invariant.base ∙ sym (ap (λ (s : Start). base s) begun) in
     let went : c.sweep-first.new.post.view ≡ after_sweep c.args.wire (Exit i) n v =
     c.sweep-first.ensures.went.0 ∙ ap (λ (e : End). after_sweep c.args.wire e n v) c.in-Exit.is in
     let at : end_of c.lane.inside.post.home.start.network.table c.args.wire ≡ Exit i =

@@ -26,7 +26,8 @@ join_post-requires-clause-out c u =
 module _ (c : goal.After-drop-grants) where
   is : c.join_post.new.post ≡ record c.lane.inside.post { view = after_look (after_join c.lane.inside.post.view c.args.other.view) }
   is = c.join_post.ensures.post
-      ∙ ap (λ (v : View). record c.lane.inside.post { view = after_look (after_join c.lane.inside.post.view v) }) c.into_parts-post.ensures.post.1
+      ∙ ap (λ (v : View). record c.lane.inside.post { view = after_look (after_join c.lane.inside.post.view v) })
+      c.into_parts-post.ensures.post.1
 
 pub invariant_of-lane-2 : goal.invariant_of-lane-2
 invariant_of-lane-2 c =
@@ -35,7 +36,8 @@ invariant_of-lane-2 c =
     let theirs : c.as_slice.result.now ≡ c.args.other.view.grants = c.as_slice.ensures.value ∙ c.into_parts-post.ensures.grants in
     record {
       tokens = was.tokens ∙ sym (ap (λ (x : View). x.tokens) view);
-      grants = c.append.ensures.items ∙ (λ i. (c.make_way.ensures.items ∙ was.grants) i ++ theirs i) ∙ sym (ap (λ (x : View). x.grants) view);
+      grants = c.append.ensures.items ∙ (λ i. (c.make_way.ensures.items ∙ was.grants) i ++ theirs i)
+          ∙ sym (ap (λ (x : View). x.grants) view);
       small = subst FitsLanes (sym (ap (λ (p : PostValue). p.home.start) (is c))) was.small;
       few = omega (
         arith,

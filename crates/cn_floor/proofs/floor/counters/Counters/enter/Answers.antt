@@ -27,7 +27,8 @@ fetch_add-requires g c =
       at-word c.self.inside c.self.invariant (λ n. (n + 1) % 2 ^ 64)
           (λ n new. (new.1 ≡ []) × ComesIn g.T.EnterOf.coming c.post.inside.seat.me.0 new.0)
           c.place_of-place.ensures
-          (lets-in-by (start_of key) _ _ c.post.inside.seat.me g.T.EnterOf.coming c.args.entry (ap (λ (x : Coming). x.entry) c.requires.coming)
+          (lets-in-by (start_of key) _ _ c.post.inside.seat.me g.T.EnterOf.coming c.args.entry
+          (ap (λ (x : Coming). x.entry) c.requires.coming)
           (ap (λ (x : Coming). x.start) c.requires.coming ∙ about) was.no_slot was.idle (ap (λ (h : FloorValue). h.start) here) entry
           inside (rw (← c.post.view_is) at c.requires.quota)),
     )

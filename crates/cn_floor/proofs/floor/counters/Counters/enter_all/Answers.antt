@@ -29,7 +29,8 @@ fetch_add-requires g c =
           c.place_of.ensures
           (enter-all-by (start_of key) _ _ c.post.inside.seat.me g.T.EnterAllOf.entering c.args._clients.now c.args.entry c.args.count
           (c.requires.entering ∙ ap (λ (s : Start). record { start = s; clients = c.args._clients.now; entry = c.args.entry }) about)
-          was.no_slot was.idle (ap (λ (h : FloorValue). h.start) here) entry inside (rw (← c.post.view_is) at c.requires.quota) c.requires.count),
+          was.no_slot was.idle (ap (λ (h : FloorValue). h.start) here) entry inside
+          (rw (← c.post.view_is) at c.requires.quota) c.requires.count),
     )
 
 pub invariant_of-post : goal.invariant_of-post
