@@ -136,7 +136,7 @@ async function wrongByDeed([name, does, id, wanted]) {
 
 const each = deeds => deeds.map(deed => () => wrongByDeed(deed));
 
-// Asks functions one after another what is wrong, and tells the window that has this one in a frame.
+// Asks functions one after another what is wrong, and sends it to the window that has this one in a frame.
 async function tell(asked) {
     const wrong = [];
     addEventListener("error", it => wrong.push(it.message));

@@ -13,7 +13,7 @@ WORDS = ("--headless", "--no-sandbox", "--disable-gpu", "--hide-scrollbars", "--
 # The sizes of frames, of which one is a sheet of A4 between its margins, and what a finger wants, and a mouse has at least, in pixels.
 PHONE, LAPTOP, WIDE, SHEET, FINGER, MOUSE = (390, 844), (1280, 800), (1280, 900), (718, 1046), 43.5, 24
 DARK = "--blink-settings=preferredColorScheme=0"
-# A page that has the other in a frame, and shows what that tells. And what comes first if there is no WebAssembly.
+# A page that has the other in a frame, and shows what that sends. And what comes first if there is no WebAssembly.
 FRAME = """<!DOCTYPE html><iframe src="page.html" width="%d" height="%d"></iframe><pre>not told</pre><script>
 addEventListener("message", it => { document.querySelector("pre").textContent = it.data; });</script>"""
 NONE = "<script>WebAssembly.instantiate = () => Promise.reject(Error('none'));</script>"
