@@ -1,15 +1,6 @@
 -- The halves of a bitonic network, and the network of its halves.
-use Rattle.std.proofs.Common.{◌≡◌, ℕ, zero, suc, ◌+◌, ◌*◌, ◌/◌, ◌^◌, ◌<◌, ◌≤◌, List, ◌++◌, length, take, drop, refl, sym, ◌∙◌, subst, arith}
+use Rattle.cn_bitonic.proofs.Common.{◌≡◌, ℕ, zero, suc, ◌+◌, ◌*◌, ◌/◌, ◌^◌, ◌<◌, ◌≤◌, List, ◌++◌, length, take, drop, refl, sym, ◌∙◌, subst, arith, pow-succ', IsRow, bitonic, MOST_BALANCERS, back-row, front-row, half_pow, half-row, same-level, shorter, times-append, Plan, AllLoose, Builds-beside, Builds-loose, Builds-same, Builds-sized, Builds-then, bitonic_made, merger_made, BuildsBitonic, BuildsMerger, bitonic_balancers, bitonic_depth}
 use Rattle.std.proofs.lemmas.List.{drop-map, take-append-drop, take-map}
-use Rattle.std.proofs.Math.Nat.{pow-succ'}
-use Rattle.cn_spec.specs.Networks.{IsRow, bitonic}
-use Rattle.cn_spec.specs.declared.limits.TheConstants.{MOST_BALANCERS}
-use Rattle.cn_spec.proofs.CallerLemmas.{back-row, front-row, half_pow, half-row, same-level, shorter, times-append}
-use Rattle.cn_tables.specs.Plan.{Plan, AllLoose}
-use Rattle.cn_wiring.proofs.CallerLemmas.{Builds-beside, Builds-loose, Builds-same, Builds-sized, Builds-then}
-use Rattle.cn_bitonic.specs.Order.{bitonic_made, merger_made}
-use Rattle.cn_bitonic.specs.Parts.{BuildsBitonic, BuildsMerger}
-use Rattle.cn_bitonic.specs.Sizes.{bitonic_balancers, bitonic_depth}
 use Rattle.cn_bitonic.proofs.MergerParts.{Gives, HasRoom, Orders, length-outs}
 
 -- a plan has room for the bitonic network over x

@@ -1,3 +1,4 @@
+mod Common
 pub mod MergerParts
 pub mod Halves
 pub mod Whole

@@ -1,17 +1,8 @@
 -- The parts of a merger, and the merger of its parts.
-use Rattle.std.proofs.Common.{◌≡◌, ℕ, zero, suc, ◌+◌, ◌*◌, ◌^◌, ◌<◌, ◌≤◌, List, ◌++◌, length, map, refl, sym, ap, ◌∙◌, subst, arith}
-use Rattle.std.specs.List.{range_with_len}
+use Rattle.cn_bitonic.proofs.Common.{◌≡◌, ℕ, zero, suc, ◌+◌, ◌*◌, ◌^◌, ◌<◌, ◌≤◌, List, ◌++◌, length, map, refl, sym, ap, ◌∙◌, subst, arith, range_with_len, pow-suc, pow-succ', IsRow, evens, odds, layer, merge, MOST_BALANCERS, evens-row, map-evens, map-odds, odds-row, same-level, shorter, times-append, times-evens-odds, Plan, AllLoose, Builds, IsFlow, next_wire, Builds-beside, Builds-like, Builds-loose, Builds-sized, Builds-then, merger_made, BuildsMerger}
 use Rattle.std.proofs.lemmas.List.FromFn.{length-range_with_len}
-use Rattle.std.proofs.Math.Nat.{pow-suc, pow-succ'}
-use Rattle.cn_spec.specs.Networks.{IsRow, evens, odds, layer, merge}
 use Rattle.cn_spec.specs.Sums.{times}
-use Rattle.cn_spec.specs.declared.limits.TheConstants.{MOST_BALANCERS}
-use Rattle.cn_spec.proofs.CallerLemmas.{evens-row, map-evens, map-odds, odds-row, same-level, shorter, times-append, times-evens-odds}
 use Rattle.cn_wiring.specs.Made.{with_layer}
-use Rattle.cn_tables.specs.Plan.{Plan, AllLoose, Builds, IsFlow, next_wire}
-use Rattle.cn_wiring.proofs.CallerLemmas.{Builds-beside, Builds-like, Builds-loose, Builds-sized, Builds-then}
-use Rattle.cn_bitonic.specs.Order.{merger_made}
-use Rattle.cn_bitonic.specs.Parts.{BuildsMerger}
 
 -- a plan has room for the merger of x and x2
 abbrev pub HasRoom : Plan → List ℕ → List ℕ → Type 0

@@ -1,8 +1,5 @@
 -- What is known of a command that is put together step by step.
-use Rattle.std.proofs.Common.{◌≡◌, ◌∙◌, ap₂}
-use Rattle.std.specs.Prelude.{IfOk, IsOkAnd, Result, Ok, Err}
-use Rattle.std.proofs.lemmas.Result.{IfOk-weaker}
-use Rattle.clap.specs.Words.{App, Rule, with_rule}
+use Rattle.cn_cli.proofs.Common.{◌≡◌, ◌∙◌, ap₂, IfOk, IsOkAnd, Result, Ok, Err, IfOk-weaker, App, Rule, with_rule}
 
 at-before : {C E : Type 0} (app : C → App) (before : Result C E) (whole first : App) (rule added : Rule)
     → IfOk before (λ part. app part ≡ first) → rule ≡ added

@@ -1,3 +1,4 @@
+mod Common
 pub mod Readings
 pub mod WordNumbers
 pub mod OneRun

@@ -1,10 +1,6 @@
 -- Options name one run at most.
-use Rattle.std.proofs.Common.{◌≡◌, ◌<◌, ◌^◌, ◌↔◌, ℕ, List, Result, Err, codes, arith, lit<, subst}
-use Rattle.std.specs.Prelude.{IsErrOf}
-use Rattle.clap.specs.Words.{Row}
+use Rattle.cn_cli.proofs.Common.{◌≡◌, ◌<◌, ◌^◌, ◌↔◌, ℕ, List, Result, Err, codes, arith, lit<, subst, IsErrOf, Row, MOST_HAND, MOST_WORKERS, GivesNumber, NamesNoRun}
 use Rattle.cn_spec.specs.Workers.{HandFits, WorkersFit}
-use Rattle.cn_spec.specs.declared.limits.TheConstants.{MOST_HAND, MOST_WORKERS}
-use Rattle.cn_cli.specs.Choices.{GivesNumber, NamesNoRun}
 use Rattle.cn_cli.specs.Options.{Settings}
 use Rattle.cn_cli.specs.declared.options.OptionFault.{OptionFault}
 use Rattle.cn_cli.specs.declared.options.OptionFault.TheVariants.{Hand, Workers}

@@ -1,10 +1,8 @@
 -- From what clap reads of the words to what answers them.
-use Rattle.std.proofs.Common.{◌≡◌, ◌⊎◌, List, [], ◌∷◌, Option, Result, Ok, Err, MatchResult, inl, inr, subst, sym, refl, true}
-use Rattle.clap.specs.Words.{App, IsAmong, Kinds, Row, Text, fault_of, is_simple, is_simple_and_free, subcommand_of}
+use Rattle.cn_cli.proofs.Common.{◌≡◌, ◌⊎◌, List, [], ◌∷◌, Option, Result, Ok, Err, MatchResult, inl, inr, subst, sym, refl, true, App, IsAmong, Kinds, Row, Text, fault_of, is_simple, is_simple_and_free, subcommand_of, command_line}
 use Rattle.clap.specs.declared.error.ErrorKind.{ErrorKind}
 use Rattle.clap.specs.declared.error.ErrorKind.TheVariants.{DisplayHelp, DisplayVersion, OutOfMemory}
 use Rattle.clap.proofs.OnLiterals.{clap_on_literals}
-use Rattle.cn_cli.specs.CommandLine.{command_line}
 use Rattle.cn_cli.specs.Words.{Asks, IsFaultBy, IsFaultOf, IsJobOf, IsRefusalOf, faults_in}
 use Rattle.cn_cli.specs.declared.words.Job.{Job}
 use Rattle.cn_cli.specs.declared.words.WordsFault.{WordsFault}

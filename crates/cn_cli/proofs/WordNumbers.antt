@@ -1,13 +1,8 @@
 -- The digits of a number of 32 bits are read as it, and an option has the digits of one number.
-use Rattle.std.proofs.Common.{◌≡◌, ℕ, ◌^◌, ◌<◌, ◌≤◌, List, Some, Result, Ok, arith, lit<, sym, ◌∙◌}
-use Rattle.std.specs.Prelude.{decimal}
+use Rattle.cn_cli.proofs.Common.{◌≡◌, ℕ, ◌^◌, ◌<◌, ◌≤◌, List, Some, Result, Ok, arith, lit<, sym, ◌∙◌, decimal, Row, Text, MOST_LEVEL, IsWidth, Gives, GivesNumber}
 use Rattle.std.specs.Str.Parse.{ParsesUnsigned}
 use Rattle.std.proofs.lemmas.Fmt.{decimal_injective, parse-decimal}
 use Rattle.std.proofs.Math.Pow.{pow_mono}
-use Rattle.clap.specs.Words.{Row, Text}
-use Rattle.cn_spec.specs.declared.limits.TheConstants.{MOST_LEVEL}
-use Rattle.cn_tables.specs.Widths.{IsWidth}
-use Rattle.cn_cli.specs.Choices.{Gives, GivesNumber}
 
 pub width-fits : (width : ℕ) → IsWidth width → width < 2 ^ 32
 width-fits width (level, w) =

@@ -1,18 +1,10 @@
 -- Lanes that filled slots.
-use Rattle.std.proofs.Common.{◌≡◌, ℕ, ◌+◌, ◌<◌, inl, inr, List, [], ◌∷◌, ◌++◌, length, get_or, map, replicate, refl, sym, ap, ◌∙◌, subst, arith, append_assoc, append-nil}
+use Rattle.cn_clients.proofs.Common.{◌≡◌, ℕ, ◌+◌, ◌<◌, inl, inr, List, [], ◌∷◌, ◌++◌, length, get_or, map, replicate, refl, sym, ap, ◌∙◌, subst, arith, append_assoc, append-nil, get_or-replicate, get_or_past, length-append, length-map, length-replicate, map-append, sum-below-zero, Yard, empty, on, tokens_in, Grant, LaneValue, IsNamed, Filled, FilledBy, given, names_of, written}
 use Rattle.std.proofs.lemmas.Bool.{cases_lt}
-use Rattle.std.proofs.lemmas.List.{get_or-replicate, get_or_past, length-append, length-map, length-replicate, map-append}
 use Rattle.std.proofs.lemmas.List.Elements.{All-push}
 use Rattle.std.proofs.lemmas.Simd.{map-map}
 use Rattle.std.specs.Sync.OnceLock.{Named}
 use Rattle.cn_spec.specs.Step.{IsEachBelow}
-use Rattle.cn_spec.proofs.CallerLemmas.{sum-below-zero}
-use Rattle.cn_yard.specs.Lists.{Yard, empty, on, tokens_in}
-use Rattle.cn_floor.specs.declared.view.Grant.{Grant}
-use Rattle.cn_floor.specs.Lane.{LaneValue}
-use Rattle.cn_floor.specs.Named.{IsNamed}
-use Rattle.cn_clients.specs.declared.filled.Filled.{Filled}
-use Rattle.cn_clients.specs.Slots.{FilledBy, given, names_of, written}
 
 pub filled-none : (slots : List Named) (lane : LaneValue) → FilledBy slots lane lane [] []
 filled-none slots lane = record {

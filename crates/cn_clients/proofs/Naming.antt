@@ -1,13 +1,5 @@
 -- Lanes that gave names.
-use Rattle.std.proofs.Common.{◌≡◌, ℕ, ◌+◌, ◌<◌, ◌≤◌, All, List, [], ◌∷◌, ◌++◌, length, get_or, refl, sym, ap, ◌∙◌, subst, arith, append_assoc, append-nil}
-use Rattle.std.proofs.lemmas.List.{get_or-append-add, get_or-map, length-append, length-map, map-append}
-use Rattle.cn_spec.specs.Sums.{times}
-use Rattle.cn_spec.proofs.CallerLemmas.{times-append}
-use Rattle.cn_yard.specs.Lists.{Yard}
-use Rattle.cn_floor.specs.declared.view.Grant.{Grant}
-use Rattle.cn_floor.specs.Lane.{LaneValue}
-use Rattle.cn_floor.specs.Named.{IsNamed}
-use Rattle.cn_clients.specs.Naming.{GaveNames, names_granted}
+use Rattle.cn_clients.proofs.Common.{◌≡◌, ℕ, ◌+◌, ◌<◌, ◌≤◌, All, List, [], ◌∷◌, ◌++◌, length, get_or, refl, sym, ap, ◌∙◌, subst, arith, append_assoc, append-nil, get_or-append-add, get_or-map, length-append, length-map, map-append, times, times-append, Yard, Grant, LaneValue, IsNamed, GaveNames, names_granted}
 
 pub gave-none : (lane : LaneValue) → GaveNames lane lane [] []
 gave-none lane = record { home = refl; lists = refl; grants = ([], sym (append-nil lane.view.grants), (refl, refl)) }

@@ -1,13 +1,5 @@
 -- Where nobody is inside, the counts of an epoch can be carried on.
-use Rattle.std.proofs.Common.{◌≡◌, ◌≢◌, ℕ, ◌+◌, ◌<◌, ◌≤◌, Bool, true, List, [], ◌∷◌, length, refl, sym, ap, arith, ◌∙◌, ◌&&◌, slice_index}
-use Rattle.std.proofs.lemmas.Bool.{cases_Bool}
-use Rattle.cn_core.proofs.Common.{nat_tests, AgreesAfter, Balancer, Carried, End, Event, Exit, IsCore, State, after_carry, carried_by, eq-eqb, inside_in, name_of, nat_lt, once_below, past, share, state_ledger, ◌==◌}
-use Rattle.std.proofs.lemmas.Bool.{eqb-true, lt-ltb, ltb-true}
-use Rattle.cn_spec.specs.Sums.{when}
-use Rattle.cn_spec.specs.declared.limits.TheConstants.{MOST_CARRIED}
-use Rattle.cn_spec.proofs.CallerLemmas.{sum-below-zero, total-where-agree}
-use Rattle.cn_tables.specs.Table.{Stands, is_end, sum_at}
-use Rattle.cn_ledger.specs.Ledger.{IsSound, Ledger, put}
+use Rattle.cn_core.proofs.Common.{◌≡◌, ◌≢◌, ℕ, ◌+◌, ◌<◌, ◌≤◌, Bool, true, List, [], ◌∷◌, length, refl, sym, ap, arith, ◌∙◌, ◌&&◌, slice_index, cases_Bool, nat_tests, AgreesAfter, Balancer, Carried, End, Event, Exit, IsCore, State, after_carry, carried_by, eq-eqb, inside_in, name_of, nat_lt, once_below, past, share, state_ledger, ◌==◌, eqb-true, lt-ltb, ltb-true, when, MOST_CARRIED, sum-below-zero, total-where-agree, Stands, is_end, sum_at, IsSound, Ledger, put}
 use Rattle.cn_core.proofs.HistoryLemmas.{Agrees-after_carry}
 use Rattle.cn_core.proofs.StateLemmas.{given_before, IsState-after_carry}
 use Rattle.cn_core.proofs.TightLemmas.{on-inside, tight-state}

@@ -1,18 +1,6 @@
 -- Clients whose tokens stand in a yard: who comes, who moves, who leaves.
-use Rattle.std.proofs.Common.{◌≡◌, ◌≢◌, ℕ, zero, suc, ◌+◌, ◌≤◌, Bool, true, false, cond, nat_eq, eqb, List, [], ◌∷◌, ◌++◌, get_or, map, refl, sym, ap, ◌∙◌, arith, Option, Some, None}
-use Rattle.cn_core.proofs.Common.{On, Position, Walking, count_by, nat_tests, position_in, values_of, with_position}
-use Rattle.std.specs.Prelude.{All, IsSome, option_map}
-use Rattle.std.proofs.lemmas.Bool.{eqb-true}
-use Rattle.std.proofs.lemmas.List.{map-append}
-use Rattle.std.proofs.lemmas.List.Sums.{sum_by-cons}
-use Rattle.cn_yard.specs.Lists.{Admits, Lists, Moves, Releases, Yard, standing, tokens_in}
-use Rattle.cn_names.specs.declared.standing.Standing.{Standing}
+use Rattle.cn_core.proofs.Common.{◌≡◌, ◌≢◌, ℕ, zero, suc, ◌+◌, ◌≤◌, Bool, true, false, cond, nat_eq, eqb, List, [], ◌∷◌, ◌++◌, get_or, map, refl, sym, ap, ◌∙◌, arith, Option, Some, None, On, Position, Walking, count_by, nat_tests, position_in, values_of, with_position, All, IsSome, option_map, eqb-true, map-append, sum_by-cons, Admits, Lists, Moves, Releases, Yard, standing, tokens_in, Standing, is_walking, standing_of_client, with_standing, Holds, is_inside, count-push, count-set, times-absent, times-push, times-set, IsPlaced, StandsFor, position_by}
 use Rattle.cn_names.specs.declared.standing.Standing.TheVariants.{Holds as Named}
-use Rattle.cn_names.specs.Names.{is_walking, standing_of_client, with_standing}
-use Rattle.cn_core.specs.declared.position.Position.TheVariants.{Holds}
-use Rattle.cn_core.specs.State.{is_inside}
-use Rattle.cn_yard.proofs.CallerLemmas.{count-push, count-set, times-absent, times-push, times-set}
-use Rattle.cn_core.specs.InsideClients.{IsPlaced, StandsFor, position_by}
 use Rattle.cn_core.proofs.StateLemmas.{count-cons}
 
 -- the table's entries with their positions in the yard

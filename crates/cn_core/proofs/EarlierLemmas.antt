@@ -1,14 +1,5 @@
 -- Epochs that were accepted lead to a state, and so each exit let out its share of their clients.
-use Rattle.std.proofs.Common.{◌≡◌, ℕ, ◌<◌, ◌≤◌, Bool, true, false, List, [], ◌∷◌, length, ◌+◌, refl, sym, ap, arith, ◌∙◌, subst, Option, None, Some, nat_le}
-use Rattle.std.specs.Prelude.{if◌then◌else◌, is_some}
-use Rattle.cn_core.proofs.Common.{Carried, Enter, Event, Exit, IsCore, Network, On, Position, State, Step, after_carry, carried_by, end_of, inside_in, nat_tests, position_after, position_in, share, start, state_after_enter, state_after_step}
-use Rattle.cn_spec.specs.declared.limits.TheConstants.{MOST_CARRIED, MOST_CLIENTS}
-use Rattle.cn_tables.specs.Network.{IsNetwork}
-use Rattle.cn_tables.specs.Table.{Table}
-use Rattle.cn_ledger.specs.declared.reply.EnterFault.TheVariants.{NoSuchEntry, AlreadyIn, EpochFull}
-use Rattle.cn_ledger.specs.declared.reply.Reply.TheVariants.{Entered, EnterRefused}
-use Rattle.cn_core.specs.History.{Agrees, HasOneHolder, AreEpochs, ByHistories, IsHistory, enters_of, is_accepted, step_answer}
-use Rattle.cn_core.specs.Tight.{HasShares}
+use Rattle.cn_core.proofs.Common.{◌≡◌, ℕ, ◌<◌, ◌≤◌, Bool, true, false, List, [], ◌∷◌, length, ◌+◌, refl, sym, ap, arith, ◌∙◌, subst, Option, None, Some, nat_le, if◌then◌else◌, is_some, Carried, Enter, Event, Exit, IsCore, Network, On, Position, State, Step, after_carry, carried_by, end_of, inside_in, nat_tests, position_after, position_in, share, start, state_after_enter, state_after_step, MOST_CARRIED, MOST_CLIENTS, IsNetwork, Table, NoSuchEntry, AlreadyIn, EpochFull, Entered, EnterRefused, Agrees, HasOneHolder, AreEpochs, ByHistories, IsHistory, enters_of, is_accepted, step_answer, HasShares}
 use Rattle.cn_core.proofs.CarryLemmas.{IsCore-after_carry, visits-after-carry}
 use Rattle.cn_core.proofs.HistoryLemmas.{Agrees-after_carry, Agrees-start, Agrees-state_after_step, AgreesAfter-state_after_enter, inside-by_history, inside-or-named, network-state_after_step}
 use Rattle.cn_core.proofs.OneHolder.{one-holder}

@@ -1,19 +1,6 @@
 -- A state that agrees with a history answers by it.
-use Rattle.std.proofs.Common.{◌≡◌, ℕ, ◌+◌, ◌<◌, ◌≤◌, cond, nat_eq, List, [], ◌∷◌, length, get_or, refl, ap, arith, Some, None, sym, ◌∙◌, length-append, inl, inr, subst, drop, drop-cons, add-one}
-use Rattle.cn_core.proofs.Common.{AgreesAfter, Balancer, Carried, End, Enter, Event, Exit, IsState, Network, On, Position, State, Step, after_carry, carried_by, count_by, end_of, inside_in, nat_tests, past, position_after, position_in, position_past, start, state_after_enter, state_after_step, values_of, with_position}
-use Rattle.std.proofs.lemmas.Map.{length-set_value}
-use Rattle.cn_spec.specs.declared.limits.TheConstants.{MOST_CLIENTS}
-use Rattle.cn_spec.proofs.CallerLemmas.{one_more-at, zero_at}
-use Rattle.cn_tables.specs.Table.{Table, is_end}
-use Rattle.cn_core.specs.declared.position.Position.TheVariants.{Holds}
-use Rattle.cn_ledger.specs.declared.reply.EnterFault.TheVariants.{NoSuchEntry, AlreadyIn, EpochFull, Memory}
+use Rattle.cn_core.proofs.Common.{◌≡◌, ℕ, ◌+◌, ◌<◌, ◌≤◌, cond, nat_eq, List, [], ◌∷◌, length, get_or, refl, ap, arith, Some, None, sym, ◌∙◌, length-append, inl, inr, subst, drop, drop-cons, add-one, AgreesAfter, Balancer, Carried, End, Enter, Event, Exit, IsState, Network, On, Position, State, Step, after_carry, carried_by, count_by, end_of, inside_in, nat_tests, past, position_after, position_in, position_past, start, state_after_enter, state_after_step, values_of, with_position, length-set_value, MOST_CLIENTS, one_more-at, zero_at, Table, is_end, Holds, NoSuchEntry, AlreadyIn, EpochFull, Memory, Reply, Entered, EnterRefused, Stepped, StepRefused, is_named, is_inside, leaves_of, inside_of, end_at, is_leave, IsHistory, Agrees, MayAnswerAll, history_after, steps_before, EntersTo, StepsTo, TakesTo, IsLedgerEvent, AnswersByHistory, RunsByHistory, RunsTo, lookup-push, lookup-set, count-push, count-set}
 use Rattle.cn_ledger.specs.declared.reply.StepFault.TheVariants.{Stranger, HasName}
-use Rattle.cn_ledger.specs.declared.reply.Reply.{Reply}
-use Rattle.cn_ledger.specs.declared.reply.Reply.TheVariants.{Entered, EnterRefused, Stepped, StepRefused}
-use Rattle.cn_core.specs.State.{is_named, is_inside}
-use Rattle.cn_core.specs.History.{leaves_of, inside_of, end_at, is_leave, IsHistory, Agrees, MayAnswerAll, history_after, steps_before}
-use Rattle.cn_core.specs.Calls.{EntersTo, StepsTo, TakesTo, IsLedgerEvent, AnswersByHistory, RunsByHistory, RunsTo}
-use Rattle.cn_yard.proofs.CallerLemmas.{lookup-push, lookup-set, count-push, count-set}
 use Rattle.cn_core.proofs.StateLemmas.{count-cons, stands-at}
 
 pub Agrees-start : (network : Network) → Agrees (start network) [] []

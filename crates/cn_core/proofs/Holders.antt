@@ -1,23 +1,11 @@
 -- The clients of a quiet state, listed by the names that they hold.
-use Rattle.std.proofs.Common.{◌≡◌, ℕ, zero, suc, ◌+◌, ◌-◌, ◌<◌, ◌≤◌, cond, nat_eq, List, [], ◌∷◌, length, get_or, map, refl, sym, ap, ap₂, subst, ◌∙◌, arith, zero-add, Some, inl, inr}
-use Rattle.cn_core.proofs.Common.{nat_tests, IsCore, On, Position, State, Walking, count_by, eq-eqb, inside_in, position_in, positions, values_of}
-use Rattle.std.specs.Prelude.{AllPairs, Contains}
-use Rattle.std.specs.Map.{keys_of}
+use Rattle.cn_core.proofs.Common.{◌≡◌, ℕ, zero, suc, ◌+◌, ◌-◌, ◌<◌, ◌≤◌, cond, nat_eq, List, [], ◌∷◌, length, get_or, map, refl, sym, ap, ap₂, subst, ◌∙◌, arith, zero-add, Some, inl, inr, nat_tests, IsCore, On, Position, State, Walking, count_by, eq-eqb, inside_in, position_in, positions, values_of, AllPairs, Contains, keys_of, get_or-map, length-map, sum_by-cons, Lists, Standing, IsRising, ListsByName, grants_in, Holds, Clients, position_by, is_inside, name_at, times_entered, ListsStateHolders, grants_of_clients}
 use Rattle.std.specs.List.{range_with_len, sum_by}
 use Rattle.std.specs.List.Sorted.{IsPermutation}
-use Rattle.std.proofs.lemmas.List.{get_or-map, length-map}
 use Rattle.std.proofs.lemmas.List.Elements.{Contains-get_or}
 use Rattle.std.proofs.lemmas.List.FromFn.{get_or-range_with_len, length-range_with_len}
 use Rattle.std.proofs.lemmas.List.Sorted.{Contains-permutation, IsPermutation-map, IsPermutation-sym, IsPermutation-trans, length_permutation, sum_by-IsPermutation}
-use Rattle.std.proofs.lemmas.List.Sums.{sum_by-cons}
-use Rattle.cn_yard.specs.Lists.{Lists}
-use Rattle.cn_names.specs.declared.standing.Standing.{Standing}
 use Rattle.cn_names.specs.declared.standing.Standing.TheVariants.{Holds as Named}
-use Rattle.cn_names.specs.Grants.{IsRising, ListsByName, grants_in}
-use Rattle.cn_core.specs.declared.position.Position.TheVariants.{Holds}
-use Rattle.cn_core.specs.InsideClients.{Clients, position_by}
-use Rattle.cn_core.specs.State.{is_inside, name_at, times_entered}
-use Rattle.cn_core.specs.Tight.{ListsStateHolders, grants_of_clients}
 use Rattle.cn_core.proofs.Clientele.{placed}
 use Rattle.cn_core.proofs.TightLemmas.{tight-state}
 use Rattle.cn_core.proofs.StateLemmas.{count-cons}

@@ -1,13 +1,5 @@
 -- A client that leaves by an exit is an event of the ledger.
-use Rattle.std.proofs.Common.{◌≡◌, ℕ, ◌+◌, ◌-◌, ◌<◌, nat_eq, List, ◌∷◌, refl, ap, arith, Some, sym, ◌∙◌, slice_index, ◌&&◌, eqb, add-zero}
-use Rattle.cn_core.proofs.Common.{nat_tests, AgreesAfter, Balancer, Carried, End, Event, Exit, IsState, On, Position, State, Step, count_by, end_of, name_of, nat_lt, once_below, position_in, position_past, state_after_step, state_ledger, values_of, with_position, ◌==◌}
-use Rattle.cn_spec.specs.Sums.{when}
-use Rattle.cn_spec.proofs.CallerLemmas.{exit_of-name_of}
-use Rattle.cn_tables.specs.Table.{is_end}
-use Rattle.cn_core.specs.History.{times_passed}
-use Rattle.cn_ledger.specs.Events.{Leaves}
-use Rattle.cn_core.specs.StateLedger.{is_on, holds, given_in_state}
-use Rattle.cn_yard.proofs.CallerLemmas.{count-set}
+use Rattle.cn_core.proofs.Common.{◌≡◌, ℕ, ◌+◌, ◌-◌, ◌<◌, nat_eq, List, ◌∷◌, refl, ap, arith, Some, sym, ◌∙◌, slice_index, ◌&&◌, eqb, add-zero, nat_tests, AgreesAfter, Balancer, Carried, End, Event, Exit, IsState, On, Position, State, Step, count_by, end_of, name_of, nat_lt, once_below, position_in, position_past, state_after_step, state_ledger, values_of, with_position, ◌==◌, when, exit_of-name_of, is_end, times_passed, Leaves, is_on, holds, given_in_state, count-set}
 use Rattle.cn_core.proofs.StateLemmas.{given_before, name-later, stands-at}
 use Rattle.cn_core.proofs.LedgerMoves.{count-after, held-after, held-pair-after, passed-after, standing-after}
 

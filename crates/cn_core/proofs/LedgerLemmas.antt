@@ -1,23 +1,10 @@
 -- Each event of a core is an event of its ledger, and so its ledger is sound.
-use Rattle.std.proofs.Common.{◌≡◌, ℕ, ◌+◌, ◌<◌, List, [], ◌∷◌, length, refl, ap, arith, Some, None, sym, ◌∙◌, ◌&&◌}
-use Rattle.cn_core.proofs.Common.{nat_tests, AgreesAfter, Balancer, Carried, End, Enter, Event, Exit, IsCore, IsState, Network, On, State, Step, carried_by, end_of, name_of, nat_lt, once_below, past, position_in, share, start, state_after_enter, state_after_step, state_ledger, ◌==◌}
-use Rattle.std.proofs.lemmas.Bool.{le-ltb}
-use Rattle.cn_spec.specs.Sums.{when}
-use Rattle.cn_spec.specs.declared.limits.TheConstants.{MOST_CLIENTS}
-use Rattle.cn_spec.proofs.CallerLemmas.{zero_at}
-use Rattle.cn_tables.specs.Table.{Stands}
-use Rattle.cn_tables.specs.Network.{IsNetwork}
-use Rattle.cn_core.specs.History.{ByHistories, moved_past}
-use Rattle.cn_ledger.specs.Ledger.{IsSound}
+use Rattle.cn_core.proofs.Common.{◌≡◌, ℕ, ◌+◌, ◌<◌, List, [], ◌∷◌, length, refl, ap, arith, Some, None, sym, ◌∙◌, ◌&&◌, nat_tests, AgreesAfter, Balancer, Carried, End, Enter, Event, Exit, IsCore, IsState, Network, On, State, Step, carried_by, end_of, name_of, nat_lt, once_below, past, position_in, share, start, state_after_enter, state_after_step, state_ledger, ◌==◌, le-ltb, when, MOST_CLIENTS, zero_at, Stands, IsNetwork, ByHistories, moved_past, IsSound, Stepped, IsLedgerEvent, StepsTo, given_in_state, HasSoundLedger, sound-enters, sound-leaves, sound-nothing, sound-passes}
 use Rattle.cn_ledger.specs.declared.moved.Moved.{Moved}
-use Rattle.cn_ledger.specs.declared.reply.Reply.TheVariants.{Stepped}
 use Rattle.cn_ledger.specs.Moves.{IsMoveOf}
-use Rattle.cn_core.specs.Calls.{IsLedgerEvent, StepsTo}
-use Rattle.cn_core.specs.StateLedger.{given_in_state, HasSoundLedger}
 use Rattle.cn_core.proofs.StateLemmas.{given_before, name-later, share-zero, stands-at, IsState-start, IsState-state_after_enter, IsState-state_after_step}
 use Rattle.cn_core.proofs.HistoryLemmas.{Agrees-start, AgreesAfter-state_after_enter, AgreesAfter-state_after_step}
 use Rattle.cn_core.proofs.PassageLemmas.{sound-passages}
-use Rattle.cn_ledger.proofs.CallerLemmas.{sound-enters, sound-leaves, sound-nothing, sound-passes}
 use Rattle.cn_core.proofs.LedgerMoves.{ledger-enters, ledger-passes}
 use Rattle.cn_core.proofs.LedgerLeaves.{ledger-leaves}
 

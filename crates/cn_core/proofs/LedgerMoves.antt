@@ -1,17 +1,8 @@
 -- A client that enters, or passes a balancer, is an event of the ledger.
-use Rattle.std.proofs.Common.{◌≡◌, ℕ, ◌+◌, ◌<◌, Bool, true, false, cond, nat_eq, List, ◌∷◌, length, refl, ap, arith, Option, Some, sym, ◌∙◌, slice_index, ◌&&◌, eqb, add-zero}
+use Rattle.cn_core.proofs.Common.{◌≡◌, ℕ, ◌+◌, ◌<◌, Bool, true, false, cond, nat_eq, List, ◌∷◌, length, refl, ap, arith, Option, Some, sym, ◌∙◌, slice_index, ◌&&◌, eqb, add-zero, nat_tests, AgreesAfter, Balancer, Carried, End, Enter, Event, Exit, IsState, On, Position, State, Step, count_by, end_of, name_of, nat_lt, past, position_after, position_in, position_past, state_after_enter, state_after_step, state_ledger, values_of, with_position, ◌==◌, when, one_more-at, is_end, steps_before, end_at, is_same_end, times_passed, Enters, Passes, is_on, holds, given_in_state, count-push, count-set, count-pair-push, count-pair-set, eqb-sym, is_end-sym}
 use Rattle.std.proofs.Math.Bool.{and-false, and_comm}
-use Rattle.cn_core.proofs.Common.{nat_tests, AgreesAfter, Balancer, Carried, End, Enter, Event, Exit, IsState, On, Position, State, Step, count_by, end_of, name_of, nat_lt, past, position_after, position_in, position_past, state_after_enter, state_after_step, state_ledger, values_of, with_position, ◌==◌}
-use Rattle.cn_spec.specs.Sums.{when}
-use Rattle.cn_spec.proofs.CallerLemmas.{one_more-at}
-use Rattle.cn_tables.specs.Table.{is_end}
-use Rattle.cn_core.specs.History.{steps_before, end_at, is_same_end, times_passed}
-use Rattle.cn_ledger.specs.Events.{Enters, Passes}
-use Rattle.cn_core.specs.StateLedger.{is_on, holds, given_in_state}
-use Rattle.cn_yard.proofs.CallerLemmas.{count-push, count-set, count-pair-push, count-pair-set}
 use Rattle.cn_core.proofs.StateLemmas.{given_before}
 use Rattle.cn_core.proofs.HistoryLemmas.{past-state_after_step}
-use Rattle.cn_ledger.proofs.CallerLemmas.{eqb-sym, is_end-sym}
 
 pub ledger-enters : (s : State) (h : List Event) (k : Carried) (client entry : ℕ) → IsState s → entry < s.network.table.entries
     → Enters s.network.table (state_ledger s h k) (state_ledger (state_after_enter s client entry) (Enter client entry ∷ h) k) client entry

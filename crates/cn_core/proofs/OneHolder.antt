@@ -1,14 +1,6 @@
 -- No two clients hold one name: by any history, whether its events were accepted or not, after what is carried.
-use Rattle.std.proofs.Common.{◌≡◌, ℕ, ◌+◌, ◌-◌, ◌%◌, ◌/◌, ◌<◌, ◌≤◌, inl, inr, List, [], ◌∷◌, length, refl, ap, arith, sym, ◌∙◌, Option, Some}
+use Rattle.cn_core.proofs.Common.{◌≡◌, ℕ, ◌+◌, ◌-◌, ◌%◌, ◌/◌, ◌<◌, ◌≤◌, inl, inr, List, [], ◌∷◌, length, refl, ap, arith, sym, ◌∙◌, Option, Some, nat_tests, Balancer, Carried, End, Enter, Event, Exit, Network, On, Position, Step, cases_eq, cases_lt, end_of, eq-eqb, name_of, ne_eqb, position_after, position_past, get_or_past, exit_of-name_of, name-below, IsNetwork, Table, Holds, HasOneHolder, end_at, steps_before, HasShares}
 use Rattle.std.specs.Option.{option_map}
-use Rattle.cn_core.proofs.Common.{nat_tests, Balancer, Carried, End, Enter, Event, Exit, Network, On, Position, Step, cases_eq, cases_lt, end_of, eq-eqb, name_of, ne_eqb, position_after, position_past}
-use Rattle.std.proofs.lemmas.List.{get_or_past}
-use Rattle.cn_spec.proofs.CallerLemmas.{exit_of-name_of, name-below}
-use Rattle.cn_tables.specs.Network.{IsNetwork}
-use Rattle.cn_tables.specs.Table.{Table}
-use Rattle.cn_core.specs.declared.position.Position.TheVariants.{Holds}
-use Rattle.cn_core.specs.History.{HasOneHolder, end_at, steps_before}
-use Rattle.cn_core.specs.Tight.{HasShares}
 use Rattle.cn_core.proofs.StateLemmas.{stands-at}
 
 -- the steps that are carried were made before

@@ -1,8 +1,5 @@
 -- The passages of each history have sound numbers.
-use Rattle.std.proofs.Common.{◌≡◌, ℕ, ◌+◌, ◌&&◌, Bool, true, false, cond, eqb, List, [], ◌∷◌, arith}
-use Rattle.cn_core.proofs.Common.{Balancer, Carried, Enter, Event, Step, nat_lt, nat_tests, once_below, position_after}
-use Rattle.cn_tables.specs.Table.{Table}
-use Rattle.cn_core.specs.History.{end_at, is_same_end, steps_before, times_passed}
+use Rattle.cn_core.proofs.Common.{◌≡◌, ℕ, ◌+◌, ◌&&◌, Bool, true, false, cond, eqb, List, [], ◌∷◌, arith, Balancer, Carried, Enter, Event, Step, nat_lt, nat_tests, once_below, position_after, Table, end_at, is_same_end, steps_before, times_passed}
 
 -- numbers that are those below m, each once, and m if the step is a passage
 one-more : (before times m n : ℕ) (here : Bool) → before + times ≡ cond (nat_lt n m) 1 0

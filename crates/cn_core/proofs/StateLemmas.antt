@@ -1,17 +1,5 @@
 -- Each event keeps what each state keeps.
-use Rattle.std.proofs.Common.{Bool, cond, ◌≡◌, ℕ, ◌+◌, ◌*◌, ◌%◌, ◌<◌, ◌≤◌, nat_eq, List, [], ◌∷◌, ◌++◌, length, arith, Some, None, ◌∙◌, slice_index, length-set, length-append, subst, ap}
-use Rattle.std.specs.Prelude.{replicate}
-use Rattle.cn_core.proofs.Common.{Balancer, End, Exit, IsState, count_by, Network, On, Position, State, after_carry, end_of, name_of, nat_tests, once_below, position_in, position_past, share, start, state_after_enter, state_after_step}
-use Rattle.std.proofs.lemmas.List.{length-replicate}
-use Rattle.std.proofs.lemmas.List.Sums.{sum_by-cons}
-use Rattle.std.proofs.lemmas.Map.{length-set_value}
-use Rattle.cn_spec.specs.declared.limits.TheConstants.{MOST_CARRIED, MOST_CLIENTS}
-use Rattle.cn_spec.proofs.CallerLemmas.{name-below, one_more-at, sum-below-change, sum-below-zero, zero_at}
-use Rattle.cn_spec.specs.Sums.{one_more}
-use Rattle.cn_tables.specs.Table.{Stands, LeadsOn}
-use Rattle.cn_tables.specs.Network.{IsNetwork}
-use Rattle.cn_core.specs.State.{came_in, times_entered}
-use Rattle.cn_yard.proofs.CallerLemmas.{lookup-push, lookup-set, times-push, times-absent, times-set}
+use Rattle.cn_core.proofs.Common.{Bool, cond, ◌≡◌, ℕ, ◌+◌, ◌*◌, ◌%◌, ◌<◌, ◌≤◌, nat_eq, List, [], ◌∷◌, ◌++◌, length, arith, Some, None, ◌∙◌, slice_index, length-set, length-append, subst, ap, replicate, Balancer, End, Exit, IsState, count_by, Network, On, Position, State, after_carry, end_of, name_of, nat_tests, once_below, position_in, position_past, share, start, state_after_enter, state_after_step, length-replicate, sum_by-cons, length-set_value, MOST_CARRIED, MOST_CLIENTS, name-below, one_more-at, sum-below-change, sum-below-zero, zero_at, one_more, Stands, LeadsOn, IsNetwork, came_in, times_entered, lookup-push, lookup-set, times-push, times-absent, times-set}
 
 pub count-cons : {X : Type 0} (p : X → Bool) (x : X) (xs : List X) → count_by p (x ∷ xs) ≡ cond (p x) 1 0 + count_by p xs
 count-cons p x xs = sum_by-cons (λ y. cond (p y) 1 0) x xs

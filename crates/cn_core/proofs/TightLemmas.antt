@@ -1,19 +1,6 @@
 -- What a core has given out: at any time, and when nobody is inside.
-use Rattle.std.proofs.Common.{◌≡◌, ℕ, ◌+◌, ◌%◌, ◌/◌, ◌<◌, ◌≤◌, cond, nat_eq, List, [], ◌∷◌, length, map, refl, ap, arith, Option, Some, slice_index}
-use Rattle.cn_core.proofs.Common.{nat_tests, End, IsCore, IsState, On, Position, State, carried_by, count_by, eq-eqb, inside_in, name_of, once_below, past, position_in, share, state_ledger, values_of, ◌==◌}
-use Rattle.std.proofs.lemmas.Bool.{lt-ltb}
+use Rattle.cn_core.proofs.Common.{◌≡◌, ℕ, ◌+◌, ◌%◌, ◌/◌, ◌<◌, ◌≤◌, cond, nat_eq, List, [], ◌∷◌, length, map, refl, ap, arith, Option, Some, slice_index, nat_tests, End, IsCore, IsState, On, Position, State, carried_by, count_by, eq-eqb, inside_in, name_of, once_below, past, position_in, share, state_ledger, values_of, ◌==◌, lt-ltb, times, each_below, name-below, name_of-exit_of, sum-below-part, times-cons, times-nil, MOST_ARRIVALS, Stands, Holds, came_in, name_at, name_in, times_entered, is_inside, is_named, IsQuiescent, Ledger, times_given, is_on, holds, granted_in_state, grants_of_clients, IsTightState, IsBoundedState, bounded, counts-few, names-differ, tight, count-pair-found}
 use Rattle.std.proofs.lemmas.Nat.{mod_below}
-use Rattle.cn_spec.specs.Sums.{times}
-use Rattle.cn_spec.proofs.CallerLemmas.{each_below, name-below, name_of-exit_of, sum-below-part, times-cons, times-nil}
-use Rattle.cn_spec.specs.declared.limits.TheConstants.{MOST_ARRIVALS}
-use Rattle.cn_tables.specs.Table.{Stands}
-use Rattle.cn_core.specs.declared.position.Position.TheVariants.{Holds}
-use Rattle.cn_core.specs.State.{came_in, name_at, name_in, times_entered, is_inside, is_named}
-use Rattle.cn_ledger.specs.Ledger.{IsQuiescent, Ledger, times_given}
-use Rattle.cn_core.specs.StateLedger.{is_on, holds, granted_in_state}
-use Rattle.cn_core.specs.Tight.{grants_of_clients, IsTightState, IsBoundedState}
-use Rattle.cn_ledger.proofs.CallerLemmas.{bounded, counts-few, names-differ, tight}
-use Rattle.cn_yard.proofs.CallerLemmas.{count-pair-found}
 use Rattle.cn_core.proofs.HistoryLemmas.{inside-or-named}
 use Rattle.cn_core.proofs.StateLemmas.{count-cons, given_before}
 

@@ -1,28 +1,13 @@
 -- The answers of epochs by their turns and history.
-use Rattle.std.proofs.Common.{◌≡◌, ℕ, ◌+◌, ◌<◌, ◌≤◌, Bool, true, false, refl, subst, List, [], ◌∷◌, length, get_or, drop, sym, ap, ◌∙◌, arith, Option, Some, None, slice_index}
-use Rattle.std.proofs.lemmas.List.{drop_more}
-use Rattle.cn_spec.specs.Step.{share}
+use Rattle.cn_epoch.proofs.Common.{◌≡◌, ℕ, ◌+◌, ◌<◌, ◌≤◌, Bool, true, false, refl, subst, List, [], ◌∷◌, length, get_or, drop, sym, ap, ◌∙◌, arith, Option, Some, None, slice_index, drop_more, share, Event, Reply, AgreesAfter, Carried, inside_of, carried_by, State, came_in, inside_in, name_at, position_in, HasShares, IsTightState, Answer, Replied, Turned, TurnRefused, Memory, NotQuiet, Command, Enter, Step, Turn, AnswersCommandByHistory, RepliesByHistory, RunsCommandsByHistory, RunsCommandsTo, TakesCommandTo, TellsEpoch, ByEpochHistories, Epochs, EpochsAgree, IsRecordOf, earlier_after, earlier_in, kept_after, next, IsTightRecord}
 use Rattle.cn_tables.specs.declared.end.End.TheVariants.{Exit}
-use Rattle.cn_core.specs.declared.event.Event.{Event}
 use Rattle.cn_core.specs.declared.event.Event.TheVariants.{Enter as EnterEvent, Step as StepEvent}
 use Rattle.cn_core.specs.declared.position.Position.{Position}
 use Rattle.cn_core.specs.declared.position.Position.TheVariants.{On, Holds}
-use Rattle.cn_ledger.specs.declared.reply.Reply.{Reply}
 use Rattle.cn_core.specs.History as core
-use Rattle.cn_core.specs.History.{AgreesAfter, Carried, inside_of, carried_by}
 use Rattle.cn_core.specs.Calls.{AnswersByHistory}
-use Rattle.cn_core.specs.State.{State, came_in, inside_in, name_at, position_in}
-use Rattle.cn_core.specs.Tight.{HasShares, IsTightState}
 use Rattle.cn_core.proofs.CallerLemmas.{came-after as event-after, Agrees-after_carry, Agrees-start, inside-by_history}
-use Rattle.cn_ledger.specs.declared.answer.Answer.{Answer}
-use Rattle.cn_ledger.specs.declared.answer.Answer.TheVariants.{Replied, Turned, TurnRefused}
-use Rattle.cn_ledger.specs.declared.answer.TurnFault.TheVariants.{Memory, NotQuiet}
-use Rattle.cn_ledger.specs.declared.command.Command.{Command}
-use Rattle.cn_ledger.specs.declared.command.Command.TheVariants.{Enter, Step, Turn}
 use Rattle.cn_ledger.specs.declared.record.EpochRecord.{EpochRecord}
-use Rattle.cn_epoch.specs.Calls.{AnswersCommandByHistory, RepliesByHistory, RunsCommandsByHistory, RunsCommandsTo, TakesCommandTo, TellsEpoch}
-use Rattle.cn_epoch.specs.History.{ByEpochHistories, Epochs, EpochsAgree, IsRecordOf, earlier_after, earlier_in, kept_after, next}
-use Rattle.cn_epoch.specs.Turns.{IsTightRecord}
 
 -- ---- a turn
 

@@ -1,3 +1,4 @@
+mod Common
 pub mod Answering
 pub mod OneRecord
 pub mod CallerLemmas

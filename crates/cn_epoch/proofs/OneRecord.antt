@@ -1,26 +1,14 @@
 -- Commands have one list of answers, want of memory aside, also if the counts are carried.
-use Rattle.std.proofs.Common.{◌≡◌, ℕ, ◌<◌, ◌≤◌, Bool, true, false, inl, inr, Option, Some, None, List, [], ◌∷◌, refl, sym, ap, ◌∙◌, arith, slice_index}
+use Rattle.cn_epoch.proofs.Common.{◌≡◌, ℕ, ◌<◌, ◌≤◌, Bool, true, false, inl, inr, Option, Some, None, List, [], ◌∷◌, refl, sym, ap, ◌∙◌, arith, slice_index, ext_get_or, Event, Reply, AreEpochs, Carried, HasOneHolder, IsHistory, answer_to, carried_by, is_accepted, Answer, Replied, Turned, TurnRefused, NotQuiet, Memory, Command, Enter, Step, Turn, MayAnswerCommand, MayReply, MayTurn, cut_by, earlier_after, earlier_by, earlier_in, history_after_command, history_by_commands, kept_after, kept_by, replied_to, turns_after, turns_by, HadMemory, IsSameAnswer, HasOneRecord, HaveOneAnswer}
 use Rattle.std.specs.Prelude.{if◌then◌else◌}
 use Rattle.std.specs.List.{AllZip}
 use Rattle.cn_spec.specs.declared.limits.TheConstants.{MOST_CARRIED}
-use Rattle.std.proofs.lemmas.List.{ext_get_or}
 use Rattle.std.proofs.lemmas.List.Elements.{All-head, All-tail}
 use Rattle.cn_tables.specs.Network.{Network, IsNetwork}
 use Rattle.cn_tables.specs.Table.{Table}
-use Rattle.cn_core.specs.declared.event.Event.{Event}
 use Rattle.cn_core.specs.declared.event.Event.TheVariants.{Enter as EnterEvent, Step as StepEvent}
-use Rattle.cn_ledger.specs.declared.reply.Reply.{Reply}
 use Rattle.cn_core.specs.History as core
-use Rattle.cn_core.specs.History.{AreEpochs, Carried, HasOneHolder, IsHistory, answer_to, carried_by, is_accepted}
 use Rattle.cn_core.proofs.CallerLemmas.{one-holder-after}
-use Rattle.cn_ledger.specs.declared.answer.Answer.{Answer}
-use Rattle.cn_ledger.specs.declared.answer.Answer.TheVariants.{Replied, Turned, TurnRefused}
-use Rattle.cn_ledger.specs.declared.answer.TurnFault.TheVariants.{NotQuiet, Memory}
-use Rattle.cn_ledger.specs.declared.command.Command.{Command}
-use Rattle.cn_ledger.specs.declared.command.Command.TheVariants.{Enter, Step, Turn}
-use Rattle.cn_epoch.specs.History.{MayAnswerCommand, MayReply, MayTurn, cut_by, earlier_after, earlier_by, earlier_in, history_after_command, history_by_commands, kept_after, kept_by, replied_to, turns_after, turns_by}
-use Rattle.cn_ledger.specs.Answers.{HadMemory, IsSameAnswer}
-use Rattle.cn_epoch.specs.Turns.{HasOneRecord, HaveOneAnswer}
 
 module _ (network : Network) (is : IsNetwork network) where
   abbrev t : Table

@@ -1,10 +1,5 @@
 -- The tokens of a lane on their wires, where one comes or goes.
-use Rattle.std.proofs.Common.{◌≡◌, ℕ, ◌+◌, ◌<◌, ◌≤◌, inl, inr, eqb, List, [], ◌∷◌, ◌++◌, length, get_or, map, set, sum_by, take, refl, ap, sym, ◌∙◌, arith}
-use Rattle.std.specs.List.{range_with_len}
-use Rattle.cn_floor.proofs.Common.{IsThere, cases_lt, get_or_past, last_on, length-map-range_with_len, ne_eqb, sum_by-append, sum_by-cons, when, without}
-use Rattle.std.proofs.lemmas.List.{length-set, take_all, take_more, take_more_set}
-use Rattle.std.proofs.lemmas.List.FromFn.{get_or-map-range_with_len, fill_by_all}
-use Rattle.cn_yard.proofs.CallerLemmas.{last_on-sum}
+use Rattle.cn_floor.proofs.Common.{◌≡◌, ℕ, ◌+◌, ◌<◌, ◌≤◌, inl, inr, eqb, List, [], ◌∷◌, ◌++◌, length, get_or, map, set, sum_by, take, refl, ap, sym, ◌∙◌, arith, range_with_len, IsThere, cases_lt, get_or_past, last_on, length-map-range_with_len, ne_eqb, sum_by-append, sum_by-cons, when, without, length-set, take_all, take_more, take_more_set, get_or-map-range_with_len, fill_by_all, last_on-sum}
 
 pub ones : {X : Type 0} (xs : List X) → sum_by (λ (_ : X). 1) xs ≡ length xs
 ones [] = refl

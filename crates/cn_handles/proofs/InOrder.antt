@@ -1,13 +1,7 @@
 -- Clients of a list who come in by one entry, and their names.
-use Rattle.std.proofs.Common.{◌≡◌, ℕ, zero, suc, ◌+◌, ◌-◌, ◌<◌, ◌≤◌, List, [], ◌∷◌, ◌++◌, arith, refl, ap, ◌∙◌}
-use Rattle.std.proofs.Common.{drop, get_or, length, map, min, slice_index, slice_set, take}
-use Rattle.std.proofs.lemmas.List.{length-drop, length-map, map-append}
+use Rattle.cn_handles.proofs.Common.{◌≡◌, ℕ, zero, suc, ◌+◌, ◌-◌, ◌<◌, ◌≤◌, List, [], ◌∷◌, ◌++◌, arith, refl, ap, ◌∙◌, drop, get_or, length, map, min, slice_index, slice_set, take, length-drop, length-map, map-append, Grant, AreNamesBy, IsLongestRun, all_by, by_entry, client_from, Client}
 use Rattle.std.proofs.lemmas.List.Sorted.{IsPermutation-append, IsPermutation-refl}
 use Rattle.cn_ledger.specs.declared.client.Client as ledger
-use Rattle.cn_floor.specs.declared.view.Grant.{Grant}
-use Rattle.cn_lists.specs.Listed.{AreNamesBy}
-use Rattle.cn_handles.specs.Many.{IsLongestRun, all_by, by_entry, client_from}
-use Rattle.cn_handles.specs.declared.handles.client.Client.{Client}
 use Rattle.cn_handles.proofs.Listed.{map-part}
 
 -- names of clients, and then of others

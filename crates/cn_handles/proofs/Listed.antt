@@ -1,17 +1,10 @@
 -- Clients of a list, of whom those who follow one another by one entry are named together.
-use Rattle.std.proofs.Common.{◌≡◌, ℕ, zero, suc, ◌+◌, ◌<◌, ◌≤◌, ◌==◌, cond, count_by, drop, replicate, List, [], ◌∷◌, ◌++◌, get_or, length, map, take, refl, sym, ap, ◌∙◌, arith, append_assoc}
-use Rattle.std.proofs.lemmas.List.{length-append, length-map, map-append}
+use Rattle.cn_handles.proofs.Common.{◌≡◌, ℕ, zero, suc, ◌+◌, ◌<◌, ◌≤◌, ◌==◌, cond, count_by, drop, replicate, List, [], ◌∷◌, ◌++◌, get_or, length, map, take, refl, sym, ap, ◌∙◌, arith, append_assoc, length-append, length-map, map-append, Yard, tokens_in, Grant, LaneValue, with_rooms, AreNamed, WalksAll, AreAllNamed, by_entry, client_from}
 use Rattle.std.proofs.lemmas.List.Sums.{sum_by-append, sum_by-cons}
 use Rattle.cn_spec.specs.Sums.{times}
 use Rattle.cn_spec.proofs.CallerLemmas.{times-cons, times-nil}
 use Rattle.cn_ledger.specs.declared.client.Client.{Client}
 use Rattle.cn_handles.specs.declared.handles.client.Client as c
-use Rattle.cn_yard.specs.Lists.{Yard, tokens_in}
-use Rattle.cn_floor.specs.declared.view.Grant.{Grant}
-use Rattle.cn_floor.specs.Lane.{LaneValue, with_rooms}
-use Rattle.cn_lists.specs.Listed.{AreNamed}
-use Rattle.cn_walk.specs.Walks.{WalksAll}
-use Rattle.cn_handles.specs.Many.{AreAllNamed, by_entry, client_from}
 
 entries_by : (entry : ℕ) (ids : List ℕ) → map (λ (c : Client). c.entry) (by_entry entry ids) ≡ replicate (length ids) entry
 entries_by entry [] = refl

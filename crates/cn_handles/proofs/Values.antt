@@ -1,35 +1,12 @@
 -- The machine value of a handle. Assumes `Logic`.
-use Rattle.std.proofs.Common.{◌≡◌, ℕ, List, [], ◌∷◌, ◌++◌, refl, subst, lit<, Option, None, Some}
-use mathlib.Core.Bool.{Bool, true, false, ◌&&◌}
-use lib.Dec.{T}
-use seplogic.Ra.Ura.{Ura}
-use mir.Syntax.{impl, tnil, dnil}
-use mir.Val.{Val, vstruct, vcons, vnil, of_list, has_ty}
-use base.Logic.{ent, guard, never, fst∗, snd∗, via}
-use base.Fraction.{full_share}
+use Rattle.cn_handles.proofs.Common.{◌≡◌, ℕ, List, [], ◌∷◌, ◌++◌, refl, subst, lit<, Option, None, Some, Bool, true, false, ◌&&◌, T, Ura, impl, tnil, dnil, Val, vstruct, vcons, vnil, of_list, has_ty, ent, guard, never, fst∗, snd∗, via, full_share, fact_use, guard_i, Logic, sem, Item, Goal, Seq, Step, step, ‵, ◌$◌, given, learn, move, use1, fsplit, fjoin, fpick, fpack, feq_i, feq_l, RattleType, Valss, RawPtr, lone, Ptr, null_ptr, block_ptr, ptr_val, lies_at, in_a_block, Testable, nothing, layout, within, shape, Al, handle_tells, Good, ghosts, box_owns, holds}
 use mir.Raw.{raw as bare}
-use contract.Monad.{fact_use}
-use base.Logic.{guard_i}
-use types.Logic.{Logic, sem}
-use types.Kit.{Item, Goal, Seq, Step, step, ‵, ◌$◌, given, learn, move, drop, use1, fsplit, fjoin, fpick, fpack, feq_i, feq_l}
-use denote.RattleType.{RattleType, Valss}
-use denote.Builtin.{RawPtr}
-use denote.Memory.{lone}
-use denote.RawPtr.{Ptr, null_ptr, block_ptr, ptr_val, lies_at, in_a_block, Testable}
-use denote.Steps.{nothing}
-use denote.Param.{layout}
-use denote.Struct.Struct.{within}
-use denote.Struct.Owning.{shape}
-use Rattle.std.proofs.alloc.Calls.{Al, handle_tells}
-use Rattle.std.proofs.cell.Inside.{Good}
+use types.Kit.{drop}
 use Rattle.std.specs.contracts.alloc.Global as heap
 use Rattle.std.proofs.alloc.Global.TheLaws as heap_laws
-use Rattle.std.specs.contracts.impls.GlobalAllocator.TheImpl.{ghosts}
-use Rattle.std.specs.Box.Ownership.{box_owns}
 use Rattle.std.proofs.GlobalToken.{dealloc_token-Testable}
 use Rattle.cn_handles.specs.contracts.handles.handle.Handle as handle
 use Rattle.cn_handles.specs.Holding as held
-use Rattle.cn_handles.specs.Holding.{holds}
 
 abbrev pub both : Val → Val → Val
 both v w = vstruct (vcons v (vcons w vnil))

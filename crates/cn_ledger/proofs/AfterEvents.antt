@@ -1,14 +1,5 @@
 -- What an event makes of counts, numbers, grants and the clients on a wire.
-use Rattle.std.proofs.Common.{◌≡◌, ◌≢◌, ℕ, suc, ◌+◌, ◌≤◌, ◌<◌, ◌&&◌, Bool, true, false, cond, eqb, sym, refl, ap, ◌∙◌, arith, add-zero}
-use Rattle.std.proofs.lemmas.Bool.Decides.{nat_tests}
-use Rattle.std.proofs.lemmas.Bool.{eqb-true}
-use Rattle.cn_tables.specs.declared.end.End.{End}
-use Rattle.cn_tables.specs.declared.end.End.TheVariants.{Balancer, Exit}
-use Rattle.cn_spec.specs.Sums.{sum_below, when, once_below}
-use Rattle.cn_tables.specs.Table.{Table, is_end, sum_at}
-use Rattle.cn_spec.proofs.CallerLemmas.{once-next, sum-below-pick, sum-below-same}
-use Rattle.cn_ledger.specs.Ledger.{Ledger}
-use Rattle.cn_ledger.specs.Events.{Enters, Goes, one_at}
+use Rattle.cn_ledger.proofs.Common.{◌≡◌, ◌≢◌, ℕ, suc, ◌+◌, ◌≤◌, ◌<◌, ◌&&◌, Bool, true, false, cond, eqb, sym, refl, ap, ◌∙◌, arith, add-zero, nat_tests, eqb-true, End, Balancer, Exit, sum_below, when, once_below, Table, is_end, sum_at, once-next, sum-below-pick, sum-below-same, Ledger, Enters, Goes, one_at}
 use Rattle.cn_ledger.proofs.PutOnWires.{total-where-point}
 
 -- ---- ends

@@ -1,9 +1,6 @@
 -- What is granted from one tight ledger to a later one.
-use Rattle.std.proofs.Common.{◌≡◌, ℕ, ◌/◌, ◌%◌, ◌<◌, ◌≤◌, arith}
-use Rattle.std.proofs.lemmas.Bool.Decides.{nat_tests}
-use Rattle.cn_tables.specs.Table.{Table}
+use Rattle.cn_ledger.proofs.Common.{◌≡◌, ℕ, ◌/◌, ◌%◌, ◌<◌, ◌≤◌, arith, nat_tests, Table, IsTight, Ledger, all_entered}
 use Rattle.cn_ledger.specs.Between.{GrantsBetween}
-use Rattle.cn_ledger.specs.Ledger.{IsTight, Ledger, all_entered}
 
 module _ (t : Table) (old new : Ledger) (was : IsTight t old) (is : IsTight t new)
     (kept : (c i v name : ℕ) → old.granted c i v name ≤ new.granted c i v name) where

@@ -1,19 +1,7 @@
 -- A sound ledger against the full flow of what entered.
-use Rattle.std.proofs.Common.{◌≡◌, ℕ, zero, suc, ◌+◌, ◌-◌, ◌*◌, ◌/◌, ◌%◌, ◌<◌, ◌≤◌, inl, inr, cond, List, length, get_or, map, refl, ap, sym, ◌∙◌, arith, eqb, subst, add-zero}
-use Rattle.std.proofs.lemmas.Bool.{cases_eq, lt-ltb, le-ltb}
-use Rattle.std.proofs.lemmas.Bool.Decides.{nat_tests}
-use Rattle.std.proofs.lemmas.Nat.{mod_below}
+use Rattle.cn_ledger.proofs.Common.{◌≡◌, ℕ, zero, suc, ◌+◌, ◌-◌, ◌*◌, ◌/◌, ◌%◌, ◌<◌, ◌≤◌, inl, inr, cond, List, length, get_or, map, refl, ap, sym, ◌∙◌, arith, eqb, subst, add-zero, cases_eq, lt-ltb, le-ltb, nat_tests, mod_below, half, share, shares, name_of, exit_of-name_of, get-or-shares, half-mono, name-below, name_of-exit_of, row_is-shares, sum-below-same, total-where-agree, total-where-mono, total-where-zero, End, Balancer, Exit, when, sum_below, Agree, once_below, Table, is_end, sum_at, Stands, IsWellFormed, IsFullFlow, Counts, full-flow-exists, full-flow-sum, full-flow-unique, older, Ledger, put, IsSound, all_entered, IsQuiescent, IsBounded, IsTight, times_given}
 use Rattle.std.proofs.lemmas.List.FromFn.{sum_by-map-range_with_len_more, get_or-map-range_with_len, length-map-range_with_len}
 use Rattle.std.specs.List.{range_with_len, sum}
-use Rattle.cn_spec.specs.Step.{half, share, shares, name_of}
-use Rattle.cn_spec.proofs.CallerLemmas.{exit_of-name_of, get-or-shares, half-mono, name-below, name_of-exit_of, row_is-shares, sum-below-same, total-where-agree, total-where-mono, total-where-zero}
-use Rattle.cn_tables.specs.declared.end.End.{End}
-use Rattle.cn_tables.specs.declared.end.End.TheVariants.{Balancer, Exit}
-use Rattle.cn_spec.specs.Sums.{when, sum_below, Agree, once_below}
-use Rattle.cn_tables.specs.Table.{Table, is_end, sum_at, Stands, IsWellFormed, IsFullFlow}
-use Rattle.cn_tables.specs.Network.{Counts}
-use Rattle.cn_tables.proofs.CallerLemmas.{full-flow-exists, full-flow-sum, full-flow-unique, older}
-use Rattle.cn_ledger.specs.Ledger.{Ledger, put, IsSound, all_entered, IsQuiescent, IsBounded, IsTight, times_given}
 
 pub put-entry : (t : Table) (l : Ledger) (u : ℕ) → u < t.entries → put t l u ≡ l.entered u
 put-entry t l u h = rw (lt-ltb u t.entries h)

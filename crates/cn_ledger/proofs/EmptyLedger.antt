@@ -1,13 +1,5 @@
 -- Where nobody has come, the ledger is sound.
-use Rattle.std.proofs.Common.{◌≡◌, ℕ, ◌-◌, ◌/◌, cond, sym, refl, ap, arith, ◌∙◌}
-use Rattle.std.proofs.lemmas.Bool.Decides.{nat_tests}
-use Rattle.std.proofs.lemmas.Bool.{le-ltb}
-use Rattle.cn_spec.specs.Step.{name_of}
-use Rattle.cn_spec.proofs.CallerLemmas.{sum-below-zero, total-where-agree, total-where-zero}
-use Rattle.cn_tables.specs.declared.end.End.{End}
-use Rattle.cn_tables.specs.declared.end.End.TheVariants.{Balancer, Exit}
-use Rattle.cn_tables.specs.Table.{Table, is_end}
-use Rattle.cn_ledger.specs.Ledger.{Ledger, IsSound, put, empty_ledger}
+use Rattle.cn_ledger.proofs.Common.{◌≡◌, ℕ, ◌-◌, ◌/◌, cond, sym, refl, ap, arith, ◌∙◌, nat_tests, le-ltb, name_of, sum-below-zero, total-where-agree, total-where-zero, End, Balancer, Exit, Table, is_end, Ledger, IsSound, put, empty_ledger}
 
 -- nothing came in, went by, stands there or was given
 pub record IsNothing (l : Ledger) : Type 0 where

@@ -1,16 +1,5 @@
 -- Each event keeps a ledger sound, and a client that goes stood where it goes from.
-use Rattle.std.proofs.Common.{◌≡◌, ℕ, ◌%◌, ◌≤◌, inl, inr, true, cond, sym, refl, ap, ◌∙◌, arith, subst}
-use Rattle.std.proofs.lemmas.Bool.Decides.{nat_tests}
-use Rattle.std.proofs.lemmas.Bool.{cases_lt, eq-eqb, ne_eqb}
-use Rattle.cn_spec.specs.Step.{name_of}
-use Rattle.cn_tables.specs.declared.end.End.{End}
-use Rattle.cn_tables.specs.declared.end.End.TheVariants.{Balancer, Exit}
-use Rattle.cn_spec.specs.Sums.{once_below}
-use Rattle.cn_tables.specs.Table.{Table, IsWellFormed, Stands, is_end, end_of, output_wire}
-use Rattle.cn_spec.proofs.CallerLemmas.{total-where-zero}
-use Rattle.cn_tables.proofs.CallerLemmas.{older}
-use Rattle.cn_ledger.specs.Ledger.{Ledger, IsSound, put}
-use Rattle.cn_ledger.specs.Events.{Enters, Goes, Passes, Leaves, one_at}
+use Rattle.cn_ledger.proofs.Common.{◌≡◌, ℕ, ◌%◌, ◌≤◌, inl, inr, true, cond, sym, refl, ap, ◌∙◌, arith, subst, nat_tests, cases_lt, eq-eqb, ne_eqb, name_of, End, Balancer, Exit, once_below, Table, IsWellFormed, Stands, is_end, end_of, output_wire, total-where-zero, older, Ledger, IsSound, put, Enters, Goes, Passes, Leaves, one_at}
 use Rattle.cn_ledger.proofs.PutOnWires.{balanced-after, put-enter, put-leave, put-pass}
 use Rattle.cn_ledger.proofs.AfterEvents.{distinct-leave, clients-enter, clients-go, count-from, numbered-after, once-leave}
 

@@ -1,17 +1,7 @@
 -- Names that are missing are as many as clients are inside.
-use Rattle.std.proofs.Common.{◌≡◌, ℕ, zero, suc, ◌+◌, ◌-◌, ◌*◌, ◌/◌, ◌%◌, ◌<◌, ◌≤◌, eqb, sym, refl, ap, ◌∙◌, arith}
-use Rattle.std.proofs.lemmas.Bool.Decides.{nat_tests}
-use Rattle.std.proofs.lemmas.Nat.{mod_below}
-use Rattle.cn_spec.specs.Step.{name_of, share}
-use Rattle.cn_spec.specs.Sums.{once_below, sum_below, when}
-use Rattle.cn_spec.proofs.CallerLemmas.{name-below, share-next, share-stays, sum-below-part, sum-below-pick, sum-below-plus, sum-below-same, sum-below-zero}
-use Rattle.cn_tables.specs.declared.end.End.TheVariants.{Exit}
-use Rattle.cn_tables.specs.Network.{Counts}
-use Rattle.cn_tables.specs.Table.{IsWellFormed, Table, sum_at}
-use Rattle.cn_tables.proofs.CallerLemmas.{full-flow-exists, full-flow-sum}
+use Rattle.cn_ledger.proofs.Common.{◌≡◌, ℕ, zero, suc, ◌+◌, ◌-◌, ◌*◌, ◌/◌, ◌%◌, ◌<◌, ◌≤◌, eqb, sym, refl, ap, ◌∙◌, arith, nat_tests, mod_below, name_of, share, once_below, sum_below, when, name-below, share-next, share-stays, sum-below-part, sum-below-pick, sum-below-plus, sum-below-same, sum-below-zero, Exit, Counts, IsWellFormed, Table, sum_at, full-flow-exists, full-flow-sum, IsSound, Ledger, all_entered, times_given}
 use Rattle.cn_ledger.specs.Gaps.{IsNearShares, IsSmooth, names_missing}
 use Rattle.cn_ledger.specs.Laws.{all_inside}
-use Rattle.cn_ledger.specs.Ledger.{IsSound, Ledger, all_entered, times_given}
 use Rattle.cn_ledger.proofs.Bound.{bounded, exit-shares}
 use Rattle.cn_ledger.proofs.Kept.{nobody-lost}
 

@@ -1,14 +1,5 @@
 -- The ledger after an event, where the event can happen.
-use Rattle.std.proofs.Common.{◌≡◌, ℕ, suc, ◌+◌, ◌-◌, ◌%◌, ◌<◌, ◌≤◌, ◌&&◌, eqb, length, arith, refl}
-use Rattle.std.proofs.lemmas.Bool.Decides.{nat_tests}
-use Rattle.cn_spec.specs.Step.{name_of}
-use Rattle.cn_spec.specs.Sums.{when}
-use Rattle.cn_spec.proofs.CallerLemmas.{sum-below-part}
-use Rattle.cn_tables.specs.declared.end.End.{End}
-use Rattle.cn_tables.specs.declared.end.End.TheVariants.{Balancer, Exit}
-use Rattle.cn_tables.specs.Table.{Table, is_end, end_of, output_wire}
-use Rattle.cn_ledger.specs.Ledger.{Ledger, IsSound}
-use Rattle.cn_ledger.specs.Events.{Enters, Goes, Passes, Leaves, one_at}
+use Rattle.cn_ledger.proofs.Common.{◌≡◌, ℕ, suc, ◌+◌, ◌-◌, ◌%◌, ◌<◌, ◌≤◌, ◌&&◌, eqb, length, arith, refl, nat_tests, name_of, when, sum-below-part, End, Balancer, Exit, Table, is_end, end_of, output_wire, Ledger, IsSound, Enters, Goes, Passes, Leaves, one_at}
 
 pub standing-le-on : (t : Table) (l : Ledger) → IsSound t l → (u c : ℕ) → l.standing u c ≤ l.on u
 standing-le-on t l sound u c =

@@ -1,13 +1,5 @@
 -- Counts are few, and nobody is lost.
-use Rattle.std.proofs.Common.{◌≡◌, ℕ, zero, suc, ◌+◌, ◌*◌, ◌≤◌, length, sym, refl, ap, ◌∙◌, arith}
-use Rattle.cn_spec.specs.Step.{half}
-use Rattle.cn_spec.specs.Sums.{sum_below}
-use Rattle.cn_spec.proofs.CallerLemmas.{half-sum, sum-below-plus, sum-below-same}
-use Rattle.cn_tables.specs.declared.end.End.{End}
-use Rattle.cn_tables.specs.declared.end.End.TheVariants.{Balancer, Exit}
-use Rattle.cn_tables.specs.Table.{Table, IsWellFormed, Stands, sum_at}
-use Rattle.cn_tables.proofs.CallerLemmas.{count-twice, full-flow-exists, full-flow-few}
-use Rattle.cn_ledger.specs.Ledger.{Ledger, IsSound, all_entered, put}
+use Rattle.cn_ledger.proofs.Common.{◌≡◌, ℕ, zero, suc, ◌+◌, ◌*◌, ◌≤◌, length, sym, refl, ap, ◌∙◌, arith, half, sum_below, half-sum, sum-below-plus, sum-below-same, End, Balancer, Exit, Table, IsWellFormed, Stands, sum_at, count-twice, full-flow-exists, full-flow-few, Ledger, IsSound, all_entered, put}
 use Rattle.cn_ledger.proofs.Bound.{count-at_most, put-entry, put-output}
 
 pub counts-few : (t : Table) → IsWellFormed t → (l : Ledger) → IsSound t l → (end : End) → Stands t end → l.count end ≤ all_entered t l

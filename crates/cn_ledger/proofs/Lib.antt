@@ -1,3 +1,4 @@
+mod Common
 pub mod Bound
 pub mod PutOnWires
 pub mod AfterEvents

@@ -1,14 +1,7 @@
 -- The names of the grants that were made from one tight ledger to a later one.
-use Rattle.std.proofs.Common.{◌≡◌, ℕ, ◌+◌, ◌/◌, ◌%◌, ◌<◌, ◌≤◌, true, cond, eqb, List, [], ◌∷◌, length, sum_by, get_or, map, refl, ap, ◌∙◌, arith}
+use Rattle.cn_ledger.proofs.Common.{◌≡◌, ℕ, ◌+◌, ◌/◌, ◌%◌, ◌<◌, ◌≤◌, true, cond, eqb, List, [], ◌∷◌, length, sum_by, get_or, map, refl, ap, ◌∙◌, arith, nat_tests, ne_eqb, IsEachBelow, once_below, when, each_below, sum-by-same, times-map, Table, Ledger, IsTight, all_entered}
 use Rattle.std.specs.Prelude.{count_by}
-use Rattle.std.proofs.lemmas.Bool.Decides.{nat_tests}
-use Rattle.std.proofs.lemmas.Bool.{ne_eqb}
 use Rattle.std.proofs.lemmas.List.Sums.{get_or-le-sum_by, sum_by-cons}
-use Rattle.cn_spec.specs.Step.{IsEachBelow}
-use Rattle.cn_spec.specs.Sums.{once_below, when}
-use Rattle.cn_spec.proofs.CallerLemmas.{each_below, sum-by-same, times-map}
-use Rattle.cn_tables.specs.Table.{Table}
-use Rattle.cn_ledger.specs.Ledger.{Ledger, IsTight, all_entered}
 use Rattle.cn_ledger.specs.Grants.{Grant, ListsGrants, is_grant}
 
 -- a grant is itself

@@ -1,15 +1,5 @@
 -- The sums at an end where its numbers change, and what each event puts on a wire.
-use Rattle.std.proofs.Common.{◌≡◌, ℕ, zero, suc, ◌+◌, ◌-◌, ◌*◌, ◌/◌, ◌%◌, ◌≤◌, ◌<◌, Bool, cond, eqb, List, [], ◌∷◌, length, get_or, ◌∙◌, arith}
-use Rattle.std.proofs.lemmas.Bool.Decides.{nat_tests}
-use Rattle.std.proofs.lemmas.Bool.{cases_Bool}
-use Rattle.cn_spec.specs.Step.{half}
-use Rattle.cn_tables.specs.declared.end.End.{End}
-use Rattle.cn_tables.specs.declared.end.End.TheVariants.{Balancer}
-use Rattle.cn_spec.specs.Sums.{when, total_where}
-use Rattle.cn_tables.specs.Table.{Table, is_end, sum_at, output_wire}
-use Rattle.cn_spec.proofs.CallerLemmas.{total-where-agree, total-where-shift, total-where-zero}
-use Rattle.cn_ledger.specs.Ledger.{Ledger, put}
-use Rattle.cn_ledger.specs.Events.{Enters, Passes, Leaves, one_at}
+use Rattle.cn_ledger.proofs.Common.{◌≡◌, ℕ, zero, suc, ◌+◌, ◌-◌, ◌*◌, ◌/◌, ◌%◌, ◌≤◌, ◌<◌, Bool, cond, eqb, List, [], ◌∷◌, length, get_or, ◌∙◌, arith, nat_tests, cases_Bool, half, End, Balancer, when, total_where, Table, is_end, sum_at, output_wire, total-where-agree, total-where-shift, total-where-zero, Ledger, put, Enters, Passes, Leaves, one_at}
 
 -- ---- sums at an end, where the numbers change
 

@@ -1,10 +1,5 @@
 -- Worked ledgers.
-use Rattle.std.proofs.Common.{◌≡◌, ℕ, ◌+◌, ◌%◌, ◌≤◌, arith, ap}
-use Rattle.cn_spec.specs.Sums.{sum_below, total_where}
-use Rattle.cn_tables.specs.declared.end.End.TheVariants.{Balancer, Exit}
-use Rattle.cn_tables.specs.Table.{output_wire}
-use Rattle.cn_ledger.specs.Ledger.{Ledger, IsSound, IsQuiescent, all_entered, empty_ledger}
-use Rattle.cn_ledger.specs.Events.{Enters, Passes, Leaves, one_at}
+use Rattle.cn_ledger.proofs.Common.{◌≡◌, ℕ, ◌+◌, ◌%◌, ◌≤◌, arith, ap, sum_below, total_where, Balancer, Exit, output_wire, Ledger, IsSound, IsQuiescent, all_entered, empty_ledger, Enters, Passes, Leaves, one_at}
 use Rattle.cn_ledger.proofs.Happening.{standing-le-on}
 use Rattle.cn_ledger.specs.WorkedNetworks.{two_wide}
 

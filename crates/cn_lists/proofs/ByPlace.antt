@@ -1,19 +1,9 @@
 -- The name of each client of a list is written at its place.
-use Rattle.std.proofs.Common.{◌≡◌, ◌≢◌, ℕ, zero, suc, ◌+◌, ◌-◌, ◌*◌, ◌<◌, ◌≤◌, ◌==◌, List, [], ◌∷◌, ◌++◌, length, map, refl, sym, ap, ◌∙◌, subst, arith, cond}
-use Rattle.std.specs.Prelude.{get_or, slice_index, IsPermutation}
+use Rattle.cn_lists.proofs.Common.{◌≡◌, ◌≢◌, ℕ, zero, suc, ◌+◌, ◌-◌, ◌*◌, ◌<◌, ◌≤◌, ◌==◌, List, [], ◌∷◌, ◌++◌, length, map, refl, sym, ap, ◌∙◌, subst, arith, cond, get_or, slice_index, IsPermutation, ext_get_or, get_or-map, length-map, map-append, map-set, get_or-map-range_with_len, times, at_most_once, once_each, order-times, times-append, times-cons, times-map, times-nil, every_second, grants_out, grants-next, AreNamesBy, AreNoted, gone_too, placed, Grant, append_assoc, eq-eqb, length-map-range_with_len, name_of, sum_by-append, sum_by-cons}
 use Rattle.std.specs.List.{range_with_len, swap}
 use Rattle.std.proofs.Math.ListN.{set}
-use Rattle.std.proofs.lemmas.List.{ext_get_or, get_or-map, length-map, map-append, map-set}
 use Rattle.std.proofs.lemmas.List.Edits.{swap_is}
-use Rattle.std.proofs.lemmas.List.FromFn.{get_or-map-range_with_len}
 use Rattle.std.proofs.lemmas.List.Sorted.{IsPermutation-keeps, IsPermutation-refl, IsPermutation-swap, IsPermutation-trans}
-use Rattle.cn_spec.specs.Sums.{times}
-use Rattle.cn_spec.proofs.CallerLemmas.{at_most_once, once_each, order-times, times-append, times-cons, times-map, times-nil}
-use Rattle.cn_yard.specs.Deals.{every_second}
-use Rattle.cn_floor.specs.Sweeps.{grants_out}
-use Rattle.cn_floor.proofs.CallerLemmas.{grants-next}
-use Rattle.cn_lists.specs.Listed.{AreNamesBy, AreNoted, gone_too, placed}
-use Rattle.cn_lists.proofs.Common.{Grant, append_assoc, eq-eqb, length-map-range_with_len, name_of, sum_by-append, sum_by-cons}
 use Rattle.cn_lists.proofs.Groups.{placed-many, placed-more, sum-dealt}
 
 -- ---- who has gone

@@ -1,14 +1,6 @@
 -- The clients of a list come in together, by one entry.
-use Rattle.std.proofs.Common.{◌≡◌, ℕ, zero, suc, ◌+◌, ◌*◌, ◌<◌, ◌≤◌, ◌==◌, inl, inr, eqb, List, [], ◌∷◌, ◌++◌, count_by, map, sum_by, take, length, replicate, refl, sym, ap, ◌∙◌, subst, arith, cond, append-nil}
-use Rattle.std.specs.Prelude.{slice_index, false, Bool}
-use Rattle.std.proofs.Math.Seq.{take-length}
-use Rattle.cn_lists.proofs.Common.{View, after_enter, append_assoc, cases_eq, cases_lt, eq-eqb, get_or_past, last_on, length-map-range_with_len, ne_eqb, on, sum-below-one, sum-below-same, sum_by-append, sum_by-cons, times_in, when}
-use Rattle.std.proofs.lemmas.List.{map-append, take_more, replicate-append-replicate}
-use Rattle.cn_spec.specs.Sums.{times}
+use Rattle.cn_lists.proofs.Common.{◌≡◌, ℕ, zero, suc, ◌+◌, ◌*◌, ◌<◌, ◌≤◌, ◌==◌, inl, inr, eqb, List, [], ◌∷◌, ◌++◌, count_by, map, sum_by, take, length, replicate, refl, sym, ap, ◌∙◌, subst, arith, cond, append-nil, slice_index, false, Bool, take-length, View, after_enter, append_assoc, cases_eq, cases_lt, eq-eqb, get_or_past, last_on, length-map-range_with_len, ne_eqb, on, sum-below-one, sum-below-same, sum_by-append, sum_by-cons, times_in, when, map-append, take_more, replicate-append-replicate, times, after_enter_all, after_enters, CameIn, HaveLeft, by_one_entry, placed, all-empty, made-beyond, made_at, nobody-there}
 use Rattle.cn_ledger.specs.declared.client.Client.{Client}
-use Rattle.cn_floor.specs.EntersAll.{after_enter_all, after_enters}
-use Rattle.cn_lists.specs.Listed.{CameIn, HaveLeft, by_one_entry, placed}
-use Rattle.cn_floor.proofs.CallerLemmas.{all-empty, made-beyond, made_at, nobody-there}
 use Rattle.cn_lists.proofs.Groups.{placed-more}
 
 pub none-came : (v : View) (clients : List ℕ) (entry : ℕ) → ((u : ℕ) → on v.tokens u ≡ []) → CameIn v v clients entry 0

@@ -1,13 +1,6 @@
 -- How many atomic steps a list takes.
-use Rattle.std.proofs.Common.{◌≡◌, ℕ, zero, suc, ◌+◌, ◌-◌, ◌*◌, ◌<◌, ◌≤◌, inl, inr, List, [], ◌∷◌, length, refl, sym, ap, ◌∙◌, subst, arith}
-use Rattle.std.proofs.Math.Nat.{mul-le-mul_left}
-use Rattle.cn_lists.proofs.Common.{Balancer, End, Exit, Grant, Start, StoodInState, View, after_step, after_sweep, base, cases_lt, end_of, get_or_past, length_push, name_of, on, sum-below-part, tokens_in}
-use Rattle.cn_tables.specs.Network.{IsNetwork}
+use Rattle.cn_lists.proofs.Common.{◌≡◌, ℕ, zero, suc, ◌+◌, ◌-◌, ◌*◌, ◌<◌, ◌≤◌, inl, inr, List, [], ◌∷◌, length, refl, sym, ap, ◌∙◌, subst, arith, mul-le-mul_left, Balancer, End, Exit, Grant, Start, StoodInState, View, after_step, after_sweep, base, cases_lt, end_of, get_or_past, length_push, name_of, on, sum-below-part, tokens_in, IsNetwork, after_enter_all, after_enters, WalkTogether, SweptBy, after_steps, kin-by, no-levels}
 use Rattle.cn_tables.proofs.CallerLemmas.{levels}
-use Rattle.cn_floor.specs.EntersAll.{after_enter_all, after_enters}
-use Rattle.cn_lists.specs.Listed.{WalkTogether}
-use Rattle.cn_floor.specs.Sweeps.{SweptBy, after_steps}
-use Rattle.cn_floor.proofs.CallerLemmas.{kin-by, no-levels}
 
 -- how often a view's tokens went by an end
 abbrev went : View → ℕ

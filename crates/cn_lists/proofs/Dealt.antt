@@ -1,10 +1,5 @@
 -- A sweep deals the tokens of a wire, by a balancer, to its two outputs.
-use Rattle.std.proofs.Common.{◌≡◌, ◌≢◌, ℕ, zero, suc, ◌+◌, ◌-◌, ◌*◌, ◌%◌, ◌<◌, ◌≤◌, List, [], ◌∷◌, ◌++◌, length, refl, sym, ap, ◌∙◌, subst, arith, append-nil}
-use Rattle.cn_lists.proofs.Common.{Balancer, IsWellFormed, LeadsOn, Stands, Start, Table, View, after_step, after_sweep, append_assoc, end_of, eq-eqb, last_on, ne_eqb, on, output_wire, times_in}
-use Rattle.cn_yard.specs.Deals.{every_second}
-use Rattle.cn_yard.proofs.CallerLemmas.{others-on}
-use Rattle.cn_floor.specs.Sweeps.{after_steps}
-use Rattle.cn_floor.proofs.CallerLemmas.{MayGo, lists-after-on, rest-may}
+use Rattle.cn_lists.proofs.Common.{◌≡◌, ◌≢◌, ℕ, zero, suc, ◌+◌, ◌-◌, ◌*◌, ◌%◌, ◌<◌, ◌≤◌, List, [], ◌∷◌, ◌++◌, length, refl, sym, ap, ◌∙◌, subst, arith, append-nil, Balancer, IsWellFormed, LeadsOn, Stands, Start, Table, View, after_step, after_sweep, append_assoc, end_of, eq-eqb, last_on, ne_eqb, on, output_wire, times_in, every_second, others-on, after_steps, MayGo, lists-after-on, rest-may}
 
 module _ (start : Start) (wire b : ℕ) (formed : IsWellFormed start.network.table) (low : wire < length start.network.table.ends)
     (ends : end_of start.network.table wire ≡ Balancer b) (stands : Stands start.network.table (Balancer b)) where

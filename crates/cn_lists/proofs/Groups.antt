@@ -1,10 +1,5 @@
 -- The tokens of a list's clients who stand together, and of every second of them.
-use Rattle.std.proofs.Common.{◌≡◌, ℕ, zero, suc, ◌+◌, ◌-◌, ◌*◌, ◌/◌, ◌<◌, ◌≤◌, List, [], ◌∷◌, ◌++◌, sum_by, length, refl, ap, ◌∙◌, arith}
-use Rattle.std.specs.Prelude.{slice_index}
-use Rattle.std.proofs.Math.Nat.{mul-le-mul_left}
-use Rattle.cn_lists.proofs.Common.{sum_by-cons}
-use Rattle.cn_yard.specs.Deals.{every_second}
-use Rattle.cn_lists.specs.Listed.{placed}
+use Rattle.cn_lists.proofs.Common.{◌≡◌, ℕ, zero, suc, ◌+◌, ◌-◌, ◌*◌, ◌/◌, ◌<◌, ◌≤◌, List, [], ◌∷◌, ◌++◌, sum_by, length, refl, ap, ◌∙◌, arith, slice_index, mul-le-mul_left, sum_by-cons, every_second, placed}
 
 -- ---- parties
 

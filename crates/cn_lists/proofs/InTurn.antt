@@ -1,9 +1,5 @@
 -- Wires are swept one after the other.
-use Rattle.std.proofs.Common.{◌≡◌, ℕ, ◌+◌, List, [], ◌∷◌, ◌++◌, length, refl, sym, ap, ◌∙◌, subst, arith}
-use Rattle.cn_lists.proofs.Common.{AreLetBy, End, IsAtomicStep, Start, View, after_sweep, end_of}
-use Rattle.cn_floor.specs.EntersAll.{ComeTogether, EnterInTurn, after_enter_all}
-use Rattle.cn_lists.specs.Listed.{WalkTogether}
-use Rattle.cn_floor.specs.Sweeps.{GoTogether, SweptBy}
+use Rattle.cn_lists.proofs.Common.{◌≡◌, ℕ, ◌+◌, List, [], ◌∷◌, ◌++◌, length, refl, sym, ap, ◌∙◌, subst, arith, AreLetBy, End, IsAtomicStep, Start, View, after_sweep, end_of, ComeTogether, EnterInTurn, after_enter_all, WalkTogether, GoTogether, SweptBy}
 
 -- some wires were swept
 abbrev pub IsSwept : Start → View → View → Type 0

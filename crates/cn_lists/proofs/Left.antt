@@ -1,11 +1,5 @@
 -- A party has left: at once by an exit, or by the two outputs of a balancer.
-use Rattle.std.proofs.Common.{◌≡◌, ◌≢◌, ℕ, suc, ◌+◌, ◌-◌, ◌*◌, ◌%◌, ◌<◌, ◌≤◌, ◌==◌, ◌⊎◌, inl, inr, List, [], ◌∷◌, ◌++◌, length, refl, sym, ap, ◌∙◌, subst, arith, cond, append-nil, length-append}
-use Rattle.cn_lists.proofs.Common.{Balancer, Exit, Grant, IsWellFormed, LeadsOn, Stands, Start, StoodInState, Table, View, after_step, after_sweep, append_assoc, cases_eq, cases_lt, end_of, name_of, on, output_wire, sum_by-append, sum_by-cons, times_in, without}
-use Rattle.cn_yard.specs.Deals.{every_second}
-use Rattle.cn_yard.proofs.CallerLemmas.{others-on}
-use Rattle.cn_lists.specs.Listed.{AreTheirs, HaveLeft}
-use Rattle.cn_floor.specs.Sweeps.{after_steps, grants_out}
-use Rattle.cn_floor.proofs.CallerLemmas.{MayGo, grants-kept, grants-left, kin-by, lists-after-on, rest-may}
+use Rattle.cn_lists.proofs.Common.{◌≡◌, ◌≢◌, ℕ, suc, ◌+◌, ◌-◌, ◌*◌, ◌%◌, ◌<◌, ◌≤◌, ◌==◌, ◌⊎◌, inl, inr, List, [], ◌∷◌, ◌++◌, length, refl, sym, ap, ◌∙◌, subst, arith, cond, append-nil, length-append, Balancer, Exit, Grant, IsWellFormed, LeadsOn, Stands, Start, StoodInState, Table, View, after_step, after_sweep, append_assoc, cases_eq, cases_lt, end_of, name_of, on, output_wire, sum_by-append, sum_by-cons, times_in, without, every_second, others-on, AreTheirs, HaveLeft, after_steps, grants_out, MayGo, grants-kept, grants-left, kin-by, lists-after-on, rest-may}
 use Rattle.cn_lists.proofs.Groups.{length-dealt, sum-dealt}
 use Rattle.cn_lists.proofs.Dealt.{Dealt, dealt}
 

@@ -1,11 +1,6 @@
 -- Names that are taken together.
-use Rattle.std.proofs.Common.{◌≡◌, ℕ, zero, suc, ◌+◌, ◌-◌, ◌<◌, ◌≤◌, ◌^◌, ◌++◌, List, [], ◌∷◌, get_or, length, map, inl, inr, refl, sym, ap, ◌∙◌, arith, length-append}
-use Rattle.std.proofs.lemmas.List.{get_or-append-add, get_or_append_left}
-use Rattle.cn_lists.proofs.Common.{Exit, Grant, IsStart, Start, View, base, cases_lt, name_of, on}
-use Rattle.cn_floor.specs.Sweeps.{GoTogether, grants_out}
-use Rattle.cn_lists.specs.Taking.{AreWritten}
+use Rattle.cn_lists.proofs.Common.{◌≡◌, ℕ, zero, suc, ◌+◌, ◌-◌, ◌<◌, ◌≤◌, ◌^◌, ◌++◌, List, [], ◌∷◌, get_or, length, map, inl, inr, refl, sym, ap, ◌∙◌, arith, length-append, get_or-append-add, get_or_append_left, Exit, Grant, IsStart, Start, View, base, cases_lt, name_of, on, GoTogether, grants_out, AreWritten, grants-many, names-low, state-after}
 use Rattle.cn_lists.specs.declared.taking.Names.{Names}
-use Rattle.cn_floor.proofs.CallerLemmas.{grants-many, names-low, state-after}
 use Rattle.cn_lists.proofs.Together.{grants-by}
 
 -- the name of each grant

@@ -1,10 +1,5 @@
 -- One step of a party, whose tokens all pass the end of a wire together.
-use Rattle.std.proofs.Common.{◌≡◌, ℕ, zero, suc, ◌+◌, ◌-◌, ◌*◌, ◌%◌, ◌<◌, ◌≤◌, inl, inr, List, [], ◌∷◌, ◌++◌, length, refl, sym, ap, ◌∙◌, subst, arith}
-use Rattle.cn_lists.proofs.Common.{Balancer, End, Exit, LeadsOn, Start, StoodInState, View, base, cases_eq, on, output_wire, times_in}
-use Rattle.cn_yard.specs.Deals.{every_second}
-use Rattle.cn_lists.specs.Listed.{HaveLeft}
-use Rattle.cn_floor.specs.Sweeps.{GoTogether, grants_out}
-use Rattle.cn_floor.proofs.CallerLemmas.{IsKin, MayGo, grants-kept, grants-left, kin-by, state-after}
+use Rattle.cn_lists.proofs.Common.{◌≡◌, ℕ, zero, suc, ◌+◌, ◌-◌, ◌*◌, ◌%◌, ◌<◌, ◌≤◌, inl, inr, List, [], ◌∷◌, ◌++◌, length, refl, sym, ap, ◌∙◌, subst, arith, Balancer, End, Exit, LeadsOn, Start, StoodInState, View, base, cases_eq, on, output_wire, times_in, every_second, HaveLeft, GoTogether, grants_out, IsKin, MayGo, grants-kept, grants-left, kin-by, state-after}
 use Rattle.cn_lists.proofs.Dealt.{Dealt, dealt}
 use Rattle.cn_lists.proofs.Left.{left-both, left-out, nobody-left}
 

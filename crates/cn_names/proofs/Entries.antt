@@ -1,8 +1,5 @@
 -- What a write through an entry leaves.
-use Rattle.std.proofs.Common.{arith, ◌≡◌, Bool, List, [], ◌∷◌, Some}
-use Rattle.std.proofs.lemmas.Bool.{cases_Bool}
-use Rattle.std.specs.Map.{lookup}
-use Rattle.indexmap.specs.IndexMap.{insert_entry}
+use Rattle.cn_names.proofs.Common.{arith, ◌≡◌, Bool, List, [], ◌∷◌, Some, cases_Bool, lookup, insert_entry}
 
 -- a key that takes the value that it has
 pub insert-entry-same : {K V : Type 0} (eq : K → K → Bool) (es : List (K × V)) (k : K) (v : V) → lookup (eq k) es ≡ Some v

@@ -1,3 +1,4 @@
+mod Common
 pub mod Entries
 pub mod Once
 pub mod Rising

@@ -1,11 +1,6 @@
 -- In a list with distinct clients, each client stands at most once.
-use Rattle.std.proofs.Common.{◌≡◌, ◌∙◌, ℕ, ◌≤◌, cond, false, nat_eq, List, [], ◌∷◌, count_by, refl, arith}
-use Rattle.std.proofs.lemmas.Bool.Decides.{nat_tests}
+use Rattle.cn_names.proofs.Common.{◌≡◌, ◌∙◌, ℕ, ◌≤◌, cond, false, nat_eq, List, [], ◌∷◌, count_by, refl, arith, nat_tests, IsDistinct-head, IsDistinct-tail, IsDistinct, AllByRecursion, keys_of, Standing}
 use Rattle.std.proofs.lemmas.List.Sums.{sum_by-cons}
-use Rattle.std.proofs.lemmas.Map.Keys.{IsDistinct-head, IsDistinct-tail}
-use Rattle.std.specs.List.{IsDistinct, AllByRecursion}
-use Rattle.std.specs.Map.{keys_of}
-use Rattle.cn_names.specs.declared.standing.Standing.{Standing}
 
 -- a client from which each client of the list differs
 absent : (client : ℕ) (names : List (ℕ × Standing)) → AllByRecursion (λ other. nat_eq client other ≡ false) (keys_of names)

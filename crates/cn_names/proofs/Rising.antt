@@ -1,11 +1,9 @@
 -- What a sort of pairs leaves.
-use Rattle.std.proofs.Common.{◌≡◌, ℕ, ◌<◌, ◌≤◌, ◌⊎◌, false, List, get_or, inl, inr, refl, arith, IsSorted}
+use Rattle.cn_names.proofs.Common.{◌≡◌, ℕ, ◌<◌, ◌≤◌, ◌⊎◌, false, List, get_or, inl, inr, refl, arith, IsSorted, ranks_by, sorted_far, IsRising}
 use Rattle.std.proofs.lemmas.Cmp.{nat_cmp_total, on_total, then_total, ranked}
-use Rattle.std.proofs.lemmas.List.Sorted.{ranks_by, sorted_far}
 use Rattle.std.specs.declared.cmp.Ordering.{Ordering}
 use Rattle.std.specs.declared.cmp.Ordering.TheVariants.{Less, Equal, Greater}
 use Rattle.std.specs.Ordering.{MatchOrdering, is_lt, nat_cmp, ordering_then}
-use Rattle.cn_names.specs.Grants.{IsRising}
 
 -- the order of pairs of numbers
 abbrev pub pair_cmp : ℕ × ℕ → ℕ × ℕ → Ordering

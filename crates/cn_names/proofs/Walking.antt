@@ -1,14 +1,6 @@
 -- Who is walking, and what the others hold.
-use Rattle.std.proofs.Common.{arith, ◌≡◌, ℕ, suc, true, false, nat_eq, List, [], ◌∷◌, length, None, Some, refl, ap}
-use Rattle.std.proofs.lemmas.Bool.Decides.{nat_tests}
-use Rattle.std.proofs.lemmas.Bool.{eq-eqb}
-use Rattle.std.proofs.lemmas.Map.Keys.{IsDistinct-head, IsDistinct-tail}
-use Rattle.std.specs.List.{IsDistinct, AllByRecursion, list_any}
-use Rattle.std.specs.Map.{keys_of, values_of}
-use Rattle.cn_names.specs.declared.standing.Standing.{Standing}
-use Rattle.cn_names.specs.declared.standing.Standing.TheVariants.{Walking, Holds}
+use Rattle.cn_names.proofs.Common.{arith, ◌≡◌, ℕ, suc, true, false, nat_eq, List, [], ◌∷◌, length, None, Some, refl, ap, nat_tests, eq-eqb, IsDistinct-head, IsDistinct-tail, IsDistinct, AllByRecursion, list_any, keys_of, values_of, Standing, Walking, Holds, grants_in}
 use Rattle.cn_names.specs.Names.{IsWalking, is_walking, standing_of_client}
-use Rattle.cn_names.specs.Grants.{grants_in}
 
 -- a client from which each client of the list differs has no standing there
 stranger : (client : ℕ) (names : List (ℕ × Standing)) → AllByRecursion (λ other. nat_eq client other ≡ false) (keys_of names)

@@ -1,18 +1,8 @@
 -- The parts of a block, and the block of its parts.
-use Rattle.std.proofs.Common.{◌≡◌, ℕ, zero, suc, ◌+◌, ◌-◌, ◌*◌, ◌/◌, ◌^◌, ◌<◌, ◌≤◌, List, ◌++◌, length, map, refl, sym, ap, ◌∙◌, subst, arith}
-use Rattle.std.specs.List.{range_with_len}
+use Rattle.cn_periodic.proofs.Common.{◌≡◌, ℕ, zero, suc, ◌+◌, ◌-◌, ◌*◌, ◌/◌, ◌^◌, ◌<◌, ◌≤◌, List, ◌++◌, length, map, refl, sym, ap, ◌∙◌, subst, arith, range_with_len, pow-suc, pow-succ', IsRow, a_cochain, b_cochain, block, layer, MOST_BALANCERS, a_row, b-row, half_pow, map-a_cochain, map-b_cochain, same-level, shorter, times-append, times-cochains, Plan, AllLoose, Builds, IsFlow, next_wire, Builds-beside, Builds-like, Builds-loose, Builds-sized, Builds-then, block_made, BuildsBlock, block_balancers}
 use Rattle.std.proofs.lemmas.List.FromFn.{length-range_with_len}
-use Rattle.std.proofs.Math.Nat.{pow-suc, pow-succ'}
-use Rattle.cn_spec.specs.Networks.{IsRow, a_cochain, b_cochain, block, layer}
 use Rattle.cn_spec.specs.Sums.{times}
-use Rattle.cn_spec.specs.declared.limits.TheConstants.{MOST_BALANCERS}
-use Rattle.cn_spec.proofs.CallerLemmas.{a_row, b-row, half_pow, map-a_cochain, map-b_cochain, same-level, shorter, times-append, times-cochains}
 use Rattle.cn_wiring.specs.Made.{layer_made, with_layer}
-use Rattle.cn_tables.specs.Plan.{Plan, AllLoose, Builds, IsFlow, next_wire}
-use Rattle.cn_wiring.proofs.CallerLemmas.{Builds-beside, Builds-like, Builds-loose, Builds-sized, Builds-then}
-use Rattle.cn_periodic.specs.Order.{block_made}
-use Rattle.cn_periodic.specs.Parts.{BuildsBlock}
-use Rattle.cn_periodic.specs.Sizes.{block_balancers}
 
 -- a plan has room for the block over x
 abbrev pub HasRoom : Plan → List ℕ → Type 0

@@ -1,3 +1,4 @@
+mod Common
 pub mod BlockParts
 pub mod Series
 pub mod Whole

@@ -1,13 +1,5 @@
 -- Blocks in series, and the periodic network of them.
-use Rattle.std.proofs.Common.{◌≡◌, ℕ, zero, suc, ◌+◌, ◌*◌, ◌<◌, ◌≤◌, ◌-◌, List, map, refl, sym, ap, ◌∙◌, arith}
-use Rattle.std.proofs.Math.Nat.{mul-le-mul_right}
-use Rattle.cn_spec.specs.Networks.{IsRow, block, blocks, periodic}
-use Rattle.cn_spec.specs.declared.limits.TheConstants.{MOST_BALANCERS}
-use Rattle.cn_tables.specs.Plan.{Plan, AllLoose, Builds, IsFlow}
-use Rattle.cn_wiring.proofs.CallerLemmas.{Builds-same, Builds-sized, Builds-then}
-use Rattle.cn_periodic.specs.Order.{block_made, series_made}
-use Rattle.cn_periodic.specs.Parts.{BuildsPeriodic}
-use Rattle.cn_periodic.specs.Sizes.{periodic_balancers, block_balancers, periodic_depth}
+use Rattle.cn_periodic.proofs.Common.{◌≡◌, ℕ, zero, suc, ◌+◌, ◌*◌, ◌<◌, ◌≤◌, ◌-◌, List, map, refl, sym, ap, ◌∙◌, arith, mul-le-mul_right, IsRow, block, blocks, periodic, MOST_BALANCERS, Plan, AllLoose, Builds, IsFlow, Builds-same, Builds-sized, Builds-then, block_made, series_made, BuildsPeriodic, periodic_balancers, block_balancers, periodic_depth}
 use Rattle.cn_periodic.proofs.BlockParts.{Gives, HasRoom, Orders, length-outs}
 
 -- n blocks over a row of wires of a level, x, each over the outputs of the one before; the last gives y

@@ -1,11 +1,7 @@
 -- The network over all entries of a new draft.
-use Rattle.std.proofs.Common.{◌≡◌, ℕ, ◌+◌, ◌*◌, ◌/◌, ◌^◌, ◌≤◌, arith, lit≤}
+use Rattle.cn_periodic.proofs.Common.{◌≡◌, ℕ, ◌+◌, ◌*◌, ◌/◌, ◌^◌, ◌≤◌, arith, lit≤, mul-le-mul, MOST_BALANCERS, MOST_LEVEL, Plan, periodic_balancers, periodic_depth}
 use Rattle.std.proofs.Math.Pow.{pow_mono}
-use Rattle.std.proofs.Math.Nat.{mul-le-mul}
-use Rattle.cn_spec.specs.declared.limits.TheConstants.{MOST_BALANCERS, MOST_LEVEL}
-use Rattle.cn_tables.specs.Plan.{Plan}
 use Rattle.cn_tables.specs.Widths.{IsWidthOf}
-use Rattle.cn_periodic.specs.Sizes.{periodic_balancers, periodic_depth}
 
 -- the widest network
 widest : (level : ℕ) → level ≤ MOST_LEVEL → periodic_balancers level ≤ MOST_BALANCERS

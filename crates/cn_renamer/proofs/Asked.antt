@@ -1,14 +1,8 @@
 -- What a run has written, by what was asked of it.
-use Rattle.std.proofs.Common.{◌≡◌, ℕ, ap, inl, inr, List, Bool, Option, Some, None}
-use Rattle.std.specs.Prelude.{is_some}
+use Rattle.cn_renamer.proofs.Common.{◌≡◌, ℕ, ap, inl, inr, List, Bool, Option, Some, None, is_some, known-map, written-map, HasWritten, Written, IsRunInOrder, IsRunInOrderOfKnown, IsRunOf, IsRunOfKnown, IsTextOf, walkers, walkers_asked, walkers_by}
 use Rattle.std.proofs.lemmas.Bool.{cases_eq}
-use Rattle.cn_texts.proofs.CallerLemmas.{known-map, written-map}
-use Rattle.cn_texts.specs.Writing.Written.{HasWritten, Written}
 use Rattle.cn_cli.specs.Options.{Settings}
 use Rattle.cn_cli.specs.declared.words.Job.TheVariants as job
-use Rattle.cn_renamer.specs.Headline.{IsRunInOrder, IsRunInOrderOfKnown, IsRunOf, IsRunOfKnown}
-use Rattle.cn_renamer.specs.Performing.{IsTextOf}
-use Rattle.cn_renamer.specs.Running.{walkers, walkers_asked, walkers_by}
 
 -- a gate makes all workers walk each epoch, and without one one does
 pub walkers-as-asked : {G : Type 0} (gate : Option G) (options : Settings) → is_some gate ≡ options.together

@@ -1,10 +1,9 @@
 -- A job that words ask for has a width that networks are built of.
-use Rattle.std.specs.Prelude.{List, None, Option, Some}
+use Rattle.cn_renamer.proofs.Common.{List, None, Option, Some, IsBuiltFor}
 use Rattle.clap.specs.Words.{Row, Text}
 use Rattle.cn_cli.specs.Words.{Asks, IsJobOf}
 use Rattle.cn_cli.specs.declared.words.Job.{Job}
 use Rattle.cn_cli.specs.declared.words.Job.TheVariants.{Check, CheckLarge, Replay, Run, Show}
-use Rattle.cn_renamer.specs.Performing.{IsBuiltFor}
 
 built-for : (asked : Option (Text × List Row)) (job : Job) → Asks asked job → IsBuiltFor job
 built-for None job asks = absurd asks

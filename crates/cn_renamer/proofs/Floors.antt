@@ -1,26 +1,6 @@
 -- The floors on which the clients of a run walked.
-use Rattle.std.proofs.Common.{◌≡◌, ℕ, ◌+◌, ◌≤◌, All, Bool, true, false, ap, List, [], ◌∷◌, ◌++◌, length, refl, subst, sym, arith, append-nil, ◌∙◌}
-use Rattle.std.specs.List.{AllZip, flat_map}
-use Rattle.std.proofs.lemmas.List.{drop_at, take_at}
+use Rattle.cn_renamer.proofs.Common.{◌≡◌, ℕ, ◌+◌, ◌≤◌, All, Bool, true, false, ap, List, [], ◌∷◌, ◌++◌, length, refl, subst, sym, arith, append-nil, ◌∙◌, AllZip, flat_map, drop_at, take_at, All-head, All-tail, sum_by-cons, when, MOST_ENDS, Network, EpochRecord, WordsValue, client_count, words_before, ListsHolders, QuietValue, RunnerValue, next_runner, next_words, IsRunAfter, Crew, bounds_of, MayCome, clients_of_epochs, BatchEpoch, AreRecordsOf, AreOfRunner, HaveWalked, IsOfFloor, WalkedOn, runner_after, AreServed, ids_of, of_one_worker}
 use Rattle.std.proofs.lemmas.List.Concat.{flat_map-append}
-use Rattle.std.proofs.lemmas.List.Elements.{All-head, All-tail}
-use Rattle.std.proofs.lemmas.List.Sums.{sum_by-cons}
-use Rattle.cn_spec.specs.Sums.{when}
-use Rattle.cn_spec.specs.declared.limits.TheConstants.{MOST_ENDS}
-use Rattle.cn_tables.specs.Network.{Network}
-use Rattle.cn_ledger.specs.declared.record.EpochRecord.{EpochRecord}
-use Rattle.cn_floor.specs.Carried.{WordsValue, client_count, words_before}
-use Rattle.cn_floor.specs.Ends.{ListsHolders, QuietValue}
-use Rattle.cn_walk.specs.Runner.{RunnerValue, next_runner, next_words}
-use Rattle.cn_walk.specs.Runs.{IsRunAfter}
-use Rattle.cn_walk.specs.declared.crew.Crew.{Crew}
-use Rattle.cn_texts.specs.Reading.Bounds.{bounds_of}
-use Rattle.cn_texts.specs.Reading.Batch.{MayCome, clients_of_epochs}
-use Rattle.cn_texts.specs.declared.reading.batch.BatchEpoch.{BatchEpoch}
-use Rattle.cn_texts.specs.Writing.EpochRecords.{AreRecordsOf}
-use Rattle.cn_renamer.specs.Floors.{AreOfRunner, HaveWalked, IsOfFloor, WalkedOn, runner_after}
-use Rattle.cn_renamer.specs.Headline.{AreServed, ids_of}
-use Rattle.cn_renamer.specs.Running.{of_one_worker}
 use Rattle.cn_renamer.proofs.Served.{IsMadeOf, made-of}
 
 -- ---- one after another

@@ -1,26 +1,12 @@
 -- What a replay keeps of the answers of its commands.
-use Rattle.std.proofs.Common.{◌≡◌, ◌+◌, ◌-◌, ◌<◌, ◌≤◌, ℕ, List, [], None, false, ◌∷◌, ap, ◌∙◌, sym, subst, refl, arith, length, get_or, zero-add}
-use Rattle.std.specs.List.{All, AllZip}
-use Rattle.std.proofs.lemmas.List.Elements.{AllZip-get_or, length_all_zip}
-use Rattle.std.proofs.lemmas.List.{ext_get_or}
-use Rattle.std.proofs.lemmas.List.FromFn.{get_or-map-range_with_len, length-map-range_with_len}
-use Rattle.cn_spec.specs.Step.{share, shares_after}
-use Rattle.cn_spec.specs.declared.limits.TheConstants.{MOST_CLIENTS}
-use Rattle.cn_ledger.specs.declared.answer.Answer.{Answer}
+use Rattle.cn_renamer.proofs.Common.{◌≡◌, ◌+◌, ◌-◌, ◌<◌, ◌≤◌, ℕ, List, [], None, false, ◌∷◌, ap, ◌∙◌, sym, subst, refl, arith, length, get_or, zero-add, All, AllZip, AllZip-get_or, length_all_zip, ext_get_or, get_or-map-range_with_len, length-map-range_with_len, share, shares_after, MOST_CLIENTS, Answer, Enter, Step, Turn, EpochRecord, Network, TakesCommandTo, ByEpochHistories, Epochs, EpochsAgree, history_by_commands, turns_by, lines-by, AreAnsweredAs, IsKept, IsReplayText, IsWithoutCounts}
 use Rattle.cn_ledger.specs.declared.answer.Answer.TheVariants.{Replied, Turned, TurnRefused}
 use Rattle.cn_ledger.specs.declared.command.Command.{Command}
-use Rattle.cn_ledger.specs.declared.command.Command.TheVariants.{Enter, Step, Turn}
-use Rattle.cn_ledger.specs.declared.record.EpochRecord.{EpochRecord}
-use Rattle.cn_tables.specs.Network.{Network}
 use Rattle.cn_core.specs.declared.event.Event.{Event}
 use Rattle.cn_core.specs.History.{carried_by, enters_of, inside_of}
 use Rattle.cn_core.specs.State.{start}
-use Rattle.cn_epoch.specs.Calls.{TakesCommandTo}
-use Rattle.cn_epoch.specs.History.{ByEpochHistories, Epochs, EpochsAgree, history_by_commands, turns_by}
 use Rattle.cn_epoch.specs.Turns.{IsTightRecord}
 use Rattle.cn_texts.specs.Writing.Replay.{IsShowable, answer_line, counts_or_shares, replay_text}
-use Rattle.cn_texts.proofs.CallerLemmas.{lines-by}
-use Rattle.cn_renamer.specs.Replay.{AreAnsweredAs, IsKept, IsReplayText, IsWithoutCounts}
 
 shares-many : (w k : ℕ) → length (shares_after 0 k w) ≡ w
 shares-many w k = length-map-range_with_len (λ i. share (0 + k) w i - share 0 w i) 0 w

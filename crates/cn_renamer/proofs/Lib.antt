@@ -1,3 +1,4 @@
+mod Common
 pub mod Asked
 pub mod Built
 pub mod Floors

@@ -1,15 +1,8 @@
 -- A run whose batch is refused.
-use Rattle.std.proofs.Common.{◌≡◌, ℕ, Bool, List, Option, refl, subst, sym, inl, inr, ◌∙◌}
-use Rattle.std.specs.Prelude.{◌≢◌, ◌⊎◌, IfSome}
-use Rattle.cn_texts.specs.Reading.Batch.{IsBatchFault}
-use Rattle.cn_texts.specs.Reading.Bounds.{bounds_of}
-use Rattle.cn_texts.specs.Reading.Records.{records_of}
-use Rattle.cn_texts.specs.Writing.Written.{HasWritten}
+use Rattle.cn_renamer.proofs.Common.{◌≡◌, ℕ, Bool, List, Option, refl, subst, sym, inl, inr, ◌∙◌, ◌≢◌, ◌⊎◌, IfSome, IsBatchFault, bounds_of, records_of, HasWritten, Description, entries_of, IsServeFault, fault_of_batch, fault_of_cause, until_serve}
 use Rattle.cn_texts.specs.declared.reading.batch_fault.BatchCause.{BatchCause}
 use Rattle.cn_texts.specs.declared.reading.batch_fault.BatchCause.TheVariants as cause
 use Rattle.cn_texts.specs.declared.reading.batch_fault.BatchFault.{BatchFault}
-use Rattle.cn_nets.specs.Net.{Description, entries_of}
-use Rattle.cn_renamer.specs.Serve.{IsServeFault, fault_of_batch, fault_of_cause, until_serve}
 use Rattle.cn_renamer.specs.declared.serve_fault.ServeFault.{ServeFault}
 use Rattle.cn_renamer.specs.declared.serve_fault.ServeFault.TheVariants.{Batch, Memory}
 

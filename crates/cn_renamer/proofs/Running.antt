@@ -1,31 +1,7 @@
 -- The epochs of a batch that were run.
-use Rattle.std.proofs.Common.{◌≡◌, ℕ, ◌+◌, ◌<◌, ◌≤◌, All, Bool, true, false, ap, Option, List, [], ◌∷◌, drop, length, take, refl, subst, sym, arith, ◌∙◌}
-use Rattle.std.specs.Prelude.{IfSome}
-use Rattle.std.specs.List.{AllZip, flat_map}
-use Rattle.std.proofs.lemmas.List.{drop_at, length-map, take_at}
-use Rattle.std.proofs.lemmas.List.Elements.{All-drop, All-head, All-take, All-weaker}
-use Rattle.std.proofs.lemmas.List.Sums.{sum_by-cons, sum_by-take-drop}
-use Rattle.cn_spec.specs.Sums.{when}
-use Rattle.cn_spec.specs.declared.limits.TheConstants.{MOST_CLIENTS, MOST_NAMED}
-use Rattle.cn_tables.specs.Network.{Network}
-use Rattle.cn_ledger.specs.declared.client.Client.{Client}
-use Rattle.cn_ledger.specs.declared.record.EpochRecord.{EpochRecord}
-use Rattle.cn_floor.specs.Carried.{zero_words}
-use Rattle.cn_floor.specs.Ends.{QuietValue}
+use Rattle.cn_renamer.proofs.Common.{◌≡◌, ℕ, ◌+◌, ◌<◌, ◌≤◌, All, Bool, true, false, ap, Option, List, [], ◌∷◌, drop, length, take, refl, subst, sym, arith, ◌∙◌, IfSome, AllZip, flat_map, drop_at, length-map, take_at, All-drop, All-head, All-take, All-weaker, sum_by-cons, sum_by-take-drop, when, MOST_CLIENTS, MOST_NAMED, Network, Client, EpochRecord, zero_words, QuietValue, Crew, bounds_of, AreServable, IsBatch, MayCome, clients_of_epochs, records_of, BatchEpoch, AreRecordsOf, HasWritten, Written, known-map, written-map, Description, IsNetworkOf, HaveWalked, IsRunOnFloors, new_runner, IsInOrder, ids_of, text_in, MayRunAll}
 use Rattle.cn_floor.proofs.CallerLemmas.{none-came}
-use Rattle.cn_walk.specs.declared.crew.Crew.{Crew}
-use Rattle.cn_texts.specs.Reading.Bounds.{bounds_of}
-use Rattle.cn_texts.specs.Reading.Batch.{AreServable, IsBatch, MayCome, clients_of_epochs}
-use Rattle.cn_texts.specs.Reading.Records.{records_of}
-use Rattle.cn_texts.specs.declared.reading.batch.BatchEpoch.{BatchEpoch}
-use Rattle.cn_texts.specs.Writing.EpochRecords.{AreRecordsOf}
-use Rattle.cn_texts.specs.Writing.Written.{HasWritten, Written}
-use Rattle.cn_texts.proofs.CallerLemmas.{known-map, written-map}
-use Rattle.cn_nets.specs.Net.{Description, IsNetworkOf}
 use Rattle.cn_cli.specs.declared.options.Form.{Form}
-use Rattle.cn_renamer.specs.Floors.{HaveWalked, IsRunOnFloors, new_runner}
-use Rattle.cn_renamer.specs.Headline.{IsInOrder, ids_of, text_in}
-use Rattle.cn_renamer.specs.Running.{MayRunAll}
 use Rattle.cn_renamer.proofs.Floors.{AreMadeOf, records-made, when-zero}
 
 -- what may come within any bounds may come within those of a large batch

@@ -1,27 +1,9 @@
 -- The record of an epoch that was run.
-use Rattle.std.proofs.Common.{◌≡◌, ℕ, ◌+◌, ◌-◌, ◌^◌, ◌<◌, ◌≤◌, Global, List, Vec, ap, get_or, length, map, refl, sym, ◌∙◌, arith, true}
+use Rattle.cn_renamer.proofs.Common.{◌≡◌, ℕ, ◌+◌, ◌-◌, ◌^◌, ◌<◌, ◌≤◌, Global, List, Vec, ap, get_or, length, map, refl, sym, ◌∙◌, arith, true, same_number_lists, get_or-map, length-map, get_or-range_with_len, length-map-range_with_len, shares_after, times, MOST_ENDS, Client, Network, EpochRecord, WordsValue, client_count, ListsHolders, QuietValue, counts_by_exit, IsRunAfter, AreFor, AreInOrder, bounds_of, MayCome, BatchEpoch, IsOfFloor, IsServed}
 use Rattle.std.specs.List.Sorted.{IsPermutation}
-use Rattle.std.proofs.lemmas.Grind.{same_number_lists}
-use Rattle.std.proofs.lemmas.List.{get_or-map, length-map}
-use Rattle.std.proofs.lemmas.List.FromFn.{get_or-range_with_len, length-map-range_with_len}
 use Rattle.std.proofs.lemmas.List.Sorted.{IsPermutation-trans}
-use Rattle.cn_spec.specs.Step.{shares_after}
-use Rattle.cn_spec.specs.Sums.{times}
-use Rattle.cn_spec.specs.declared.limits.TheConstants.{MOST_ENDS}
 use Rattle.cn_spec.proofs.CallerLemmas.{order-times, times-map, times-order}
-use Rattle.cn_ledger.specs.declared.client.Client.{Client}
-use Rattle.cn_tables.specs.Network.{Network}
-use Rattle.cn_ledger.specs.declared.record.EpochRecord.{EpochRecord}
 use Rattle.cn_floor.specs.declared.view.Grant.{Grant}
-use Rattle.cn_floor.specs.Carried.{WordsValue, client_count}
-use Rattle.cn_floor.specs.Ends.{ListsHolders, QuietValue, counts_by_exit}
-use Rattle.cn_walk.specs.Runs.{IsRunAfter}
-use Rattle.cn_walk.specs.Walks.{AreFor, AreInOrder}
-use Rattle.cn_texts.specs.Reading.Bounds.{bounds_of}
-use Rattle.cn_texts.specs.Reading.Batch.{MayCome}
-use Rattle.cn_texts.specs.declared.reading.batch.BatchEpoch.{BatchEpoch}
-use Rattle.cn_renamer.specs.Floors.{IsOfFloor}
-use Rattle.cn_renamer.specs.Headline.{IsServed}
 
 -- what has risen at an exit's word
 abbrev risen : QuietValue → ℕ → ℕ

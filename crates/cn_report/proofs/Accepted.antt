@@ -1,27 +1,8 @@
 -- A grant list that a run has written is tight.
-use Rattle.std.proofs.Common.{◌≡◌, ◌<◌, ◌^◌, ℕ, ◌≤◌, Bool, true, false, List, [], ◌∷◌, length, map, refl, arith, ap, ◌∙◌, sym}
-use Rattle.std.specs.List.{AllByRecursion, AllZip, sum_by}
-use Rattle.std.proofs.lemmas.List.{length-map}
-use Rattle.std.proofs.lemmas.List.Sorted.{All-permutation, length_permutation}
-use Rattle.std.proofs.lemmas.List.Sums.{sum_by-cons}
-use Rattle.cn_spec.specs.Step.{counts_after, shares, shares_after}
-use Rattle.cn_spec.specs.declared.limits.TheConstants.{MOST_NAMED, MOST_RECORDS}
-use Rattle.cn_ledger.specs.declared.client.Client.{Client}
-use Rattle.cn_ledger.specs.declared.record.EpochRecord.{EpochRecord}
+use Rattle.cn_report.proofs.Common.{◌≡◌, ◌<◌, ◌^◌, ℕ, ◌≤◌, Bool, true, false, List, [], ◌∷◌, length, map, refl, arith, ap, ◌∙◌, sym, AllByRecursion, AllZip, sum_by, length-map, All-permutation, length_permutation, sum_by-cons, counts_after, shares, shares_after, MOST_NAMED, MOST_RECORDS, Client, EpochRecord, AreRising, bounds_of, IsTightList, records_of, printed_epochs, clients_of_records, BatchEpoch, Description, entries_of, Grants, AreServed, IsRunOf, IsServed, clients_before_next, AreRisingRecords, AreTightRecords, HasOwnNames, checked_epoch, names_in, served_epoch}
 use Rattle.cn_report.proofs.ReadBack.Batches.{IsSmallEpoch, batch-numbers}
 use Rattle.cn_report.proofs.ReadBack.PrintedAgain.{printed-back, tight-after}
 use Rattle.cn_report.proofs.ReadBack.TightAgain.{written-tight}
-use Rattle.cn_texts.specs.Reading.Batch.{AreRising}
-use Rattle.cn_texts.specs.Reading.Bounds.{bounds_of}
-use Rattle.cn_texts.specs.Grants.TightList.{IsTightList}
-use Rattle.cn_texts.specs.Reading.Records.{records_of}
-use Rattle.cn_texts.specs.Grants.Printed.{printed_epochs}
-use Rattle.cn_texts.specs.Writing.Report.{clients_of_records}
-use Rattle.cn_texts.specs.declared.reading.batch.BatchEpoch.{BatchEpoch}
-use Rattle.cn_nets.specs.Net.{Description, entries_of}
-use Rattle.cn_cli.specs.declared.options.Form.TheVariants.{Grants}
-use Rattle.cn_renamer.specs.Headline.{AreServed, IsRunOf, IsServed, clients_before_next}
-use Rattle.cn_report.specs.TightRecords.{AreRisingRecords, AreTightRecords, HasOwnNames, checked_epoch, names_in, served_epoch}
 
 -- who holds the names of an epoch that was served are as many as its clients
 pub as-many : (width m : ℕ) (epoch : BatchEpoch) (r : EpochRecord) → IsServed width m epoch r → length r.holders.items ≡ r.clients

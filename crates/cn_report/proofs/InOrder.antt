@@ -1,24 +1,8 @@
 -- A run whose names follow the order of the batch has one text.
-use Rattle.std.proofs.Common.{◌≡◌, ℕ, ◌+◌, Bool, List, [], ◌∷◌, ◌++◌, length, map, sum_by, ap, sym, refl, arith, ◌∙◌}
-use Rattle.std.specs.List.{AllZip, flat_map}
-use Rattle.std.proofs.lemmas.List.{length-map}
-use Rattle.std.proofs.lemmas.List.Sums.{sum_by-cons}
-use Rattle.cn_spec.specs.Step.{shares_after}
+use Rattle.cn_report.proofs.Common.{◌≡◌, ℕ, ◌+◌, Bool, List, [], ◌∷◌, ◌++◌, length, map, sum_by, ap, sym, refl, arith, ◌∙◌, AllZip, flat_map, length-map, sum_by-cons, shares_after, Network, Client, EpochRecord, plain_epoch, BatchEpoch, grant_lines, grants_header, epoch_line, epoch_lines, report_end, heading, Description, one-network, Report, Grants, AreServed, IsInOrder, IsRunInOrder, text_in}
 use Rattle.cn_spec.specs.Sums.{when}
-use Rattle.cn_tables.specs.Network.{Network}
-use Rattle.cn_ledger.specs.declared.client.Client.{Client}
-use Rattle.cn_ledger.specs.declared.record.EpochRecord.{EpochRecord}
-use Rattle.cn_texts.specs.Reading.Batch.{plain_epoch}
-use Rattle.cn_texts.specs.declared.reading.batch.BatchEpoch.{BatchEpoch}
-use Rattle.cn_texts.specs.Grants.ListText.{grant_lines, grants_header}
 use Rattle.cn_texts.specs.Writing.Outcome.{exit_lines, name_lines}
-use Rattle.cn_texts.specs.Writing.Report.{epoch_line, epoch_lines, report_end}
-use Rattle.cn_texts.specs.Writing.Text.{heading}
-use Rattle.cn_nets.specs.Net.{Description}
-use Rattle.cn_nets.proofs.CallerLemmas.{one-network}
 use Rattle.cn_cli.specs.declared.options.Form.{Form}
-use Rattle.cn_cli.specs.declared.options.Form.TheVariants.{Report, Grants}
-use Rattle.cn_renamer.specs.Headline.{AreServed, IsInOrder, IsRunInOrder, text_in}
 
 -- what texts show of a record
 record Printed : Type 0 where

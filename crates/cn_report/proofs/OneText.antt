@@ -1,19 +1,12 @@
 -- What jobs write has one text.
-use Rattle.std.proofs.Common.{◌≡◌, ℕ, List, [], ◌∷◌, None, Result, Ok, Err, ◌++◌, map, refl, sym, ap, ap₂, subst, arith, ◌∙◌}
-use Rattle.cn_tables.specs.Network.{Network, IsNetwork}
+use Rattle.cn_report.proofs.Common.{◌≡◌, ℕ, List, [], ◌∷◌, None, Result, Ok, Err, ◌++◌, map, refl, sym, ap, ap₂, subst, arith, ◌∙◌, Network, IsNetwork, Command, end_line, heading, Record, Description, one-network}
 use Rattle.cn_core.specs.History.{carried_by, enters_of, inside_of}
-use Rattle.cn_ledger.specs.declared.command.Command.{Command}
 use Rattle.cn_epoch.specs.History.{history_by_commands, turns_by}
 use Rattle.cn_epoch.proofs.CallerLemmas.{history-by-same, one-list, turns-by-same}
-use Rattle.cn_texts.specs.Writing.Replay.{end_line}
 use Rattle.cn_report.proofs.SameLines.{lines-same}
-use Rattle.cn_texts.specs.Writing.Text.{heading}
 use Rattle.cn_texts.specs.Reading.Schedule.{IsSchedule}
-use Rattle.cn_texts.specs.Reading.Records.{Record}
 use Rattle.cn_texts.specs.declared.reading.schedule_fault.ScheduleCause.{ScheduleCause}
 use Rattle.cn_texts.specs.Writing.Wiring.{wiring_text}
-use Rattle.cn_nets.specs.Net.{Description}
-use Rattle.cn_nets.proofs.CallerLemmas.{one-network}
 use Rattle.cn_renamer.specs.Replay.{IsReplayOf, IsReplayOfCommands, IsReplayText}
 use Rattle.cn_renamer.specs.Show.{IsWiringOf}
 

@@ -1,15 +1,9 @@
 -- Answers that say the same have the same lines, and those that are whole leave out nothing.
-use Rattle.cn_report.proofs.Common.{◌≡◌, ◌<◌, ◌∙◌, ℕ, List, [], ◌∷◌, ◌++◌, refl, ap, arith, length, AllZip}
+use Rattle.cn_report.proofs.Common.{◌≡◌, ◌<◌, ◌∙◌, ℕ, List, [], ◌∷◌, ◌++◌, refl, ap, arith, length, AllZip, Command, IsShowable, answer_line, answer_lines, counts_or_shares, EpochRecord, grant_lines, lines-by, IsWhole}
 use Rattle.cn_ledger.specs.declared.answer.Answer.{Answer}
 use Rattle.cn_ledger.specs.declared.answer.Answer.TheVariants.{Replied, Turned, TurnRefused}
-use Rattle.cn_ledger.specs.declared.command.Command.{Command}
 use Rattle.cn_ledger.specs.declared.command.Command.TheVariants.{Enter, Step, Turn}
 use Rattle.cn_ledger.specs.Answers.{IsSameAnswer}
-use Rattle.cn_texts.specs.Writing.Replay.{IsShowable, answer_line, answer_lines, counts_or_shares}
-use Rattle.cn_ledger.specs.declared.record.EpochRecord.{EpochRecord}
-use Rattle.cn_texts.specs.Grants.ListText.{grant_lines}
-use Rattle.cn_texts.proofs.CallerLemmas.{lines-by}
-use Rattle.cn_report.specs.Callers.{IsWhole}
 
 -- what a grant list has of a record
 abbrev pub grants-of : EpochRecord → List ℕ

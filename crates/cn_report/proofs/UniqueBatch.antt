@@ -1,12 +1,7 @@
 -- The records of a batch determine its epochs.
-use Rattle.cn_report.proofs.Common.{◌≡◌, ◌<◌, ℕ, List, [], ◌∷◌, ◌++◌, length, map, drop, refl, arith, sym, ap, ◌∙◌, length-append, ◌==◌, AllByRecursion, flat_map, append-nil, length-map, filter-append, ne_eqb}
+use Rattle.cn_report.proofs.Common.{◌≡◌, ◌<◌, ℕ, List, [], ◌∷◌, ◌++◌, length, map, drop, refl, arith, sym, ap, ◌∙◌, length-append, ◌==◌, AllByRecursion, flat_map, append-nil, length-map, filter-append, ne_eqb, Client, Arrival, BatchEpoch, AreEpochsOf, AreRising, arrivals_of, plain_epoch, arrival_at, client_of, other-epoch, same-epoch}
 use Rattle.std.proofs.Math.Seq.{drop-append_seam}
-use Rattle.cn_ledger.specs.declared.client.Client.{Client}
-use Rattle.cn_texts.specs.declared.reading.batch.arrival.Arrival.{Arrival}
-use Rattle.cn_texts.specs.declared.reading.batch.BatchEpoch.{BatchEpoch}
 use Rattle.cn_texts.specs.Reading.Arrival.{of_epoch}
-use Rattle.cn_texts.specs.Reading.Batch.{AreEpochsOf, AreRising, arrivals_of, plain_epoch}
-use Rattle.cn_texts.proofs.CallerLemmas.{arrival_at, client_of, other-epoch, same-epoch}
 
 -- the epochs above a number have none of its arrivals
 above-epoch : (n : ℕ) (epochs : List BatchEpoch) → AllByRecursion (λ e. n < e.number) epochs → of_epoch n (flat_map arrivals_of epochs) ≡ []

@@ -1,8 +1,5 @@
 -- Bitonic: its counts are the shares of the sum of its row.
-use Rattle.std.proofs.Common.{◌≡◌, ℕ, zero, suc, ◌^◌, List, length, take, drop, refl, ap₂, ◌∙◌, arith}
-use Rattle.std.specs.List.{sum}
-use Rattle.cn_spec.specs.Step.{shares, IsStep}
-use Rattle.cn_spec.specs.Networks.{IsRow, bitonic}
+use Rattle.cn_spec.proofs.Common.{◌≡◌, ℕ, zero, suc, ◌^◌, List, length, take, drop, refl, ap₂, ◌∙◌, arith, sum, shares, IsStep, IsRow, bitonic}
 use Rattle.cn_spec.proofs.Shares.{row_is-shares}
 use Rattle.cn_spec.proofs.Rows.{front-row, back-row, sum-take-drop}
 use Rattle.cn_spec.proofs.Merger.{merge-row, sum-merge, merge-is_step}

@@ -1,8 +1,5 @@
 -- Block: it lowers by one the level of the chains that have the step property.
-use Rattle.std.proofs.Common.{◌≡◌, ℕ, zero, suc, ◌+◌, ◌≤◌, ◌<◌, List, [], ◌∷◌, length, get_or, refl, sym, ap, ap₂, ◌∙◌, subst, arith}
-use Rattle.std.specs.List.{sum}
-use Rattle.cn_spec.specs.Step.{half, IsStep}
-use Rattle.cn_spec.specs.Networks.{IsRow, layer, a_cochain, b_cochain, block, tree, HasStepChains}
+use Rattle.cn_spec.proofs.Common.{◌≡◌, ℕ, zero, suc, ◌+◌, ◌≤◌, ◌<◌, List, [], ◌∷◌, length, get_or, refl, sym, ap, ap₂, ◌∙◌, subst, arith, sum, half, IsStep, IsRow, layer, a_cochain, b_cochain, block, tree, HasStepChains}
 use Rattle.cn_spec.proofs.Tree.{step-tree, tree_is-step, sum-tree}
 use Rattle.cn_spec.proofs.Pairs.{firsts, seconds, same-firsts, same-seconds, firsts-is_step, seconds-is_step}
 use Rattle.cn_spec.proofs.Layers.{sum-layer}

@@ -1,11 +1,5 @@
 -- Chains by halves, the lowest bit first; and by place.
-use Rattle.std.proofs.Common.{◌≡◌, ℕ, zero, suc, ◌+◌, ◌*◌, ◌/◌, ◌≤◌, ◌<◌, ◌^◌, ◌↔◌, List, length, map, get_or, sym, ap, ◌∙◌, inl, inr, subst, le_refl, arith}
-use Rattle.std.proofs.Math.Nat.{pow-suc, le-div_iff_mul-le, div-div-eq-div-mul, mul_comm}
-use Rattle.std.proofs.lemmas.List.FromFn.{fill_by_all, get_or-map-range_with_len, length-map-range_with_len}
-use Rattle.std.proofs.lemmas.Nat.{pow_pos}
-use Rattle.std.specs.List.{range_with_len}
-use Rattle.cn_spec.specs.Step.{IsStep}
-use Rattle.cn_spec.specs.Networks.{IsRow, chain, HasStepChains}
+use Rattle.cn_spec.proofs.Common.{◌≡◌, ℕ, zero, suc, ◌+◌, ◌*◌, ◌/◌, ◌≤◌, ◌<◌, ◌^◌, ◌↔◌, List, length, map, get_or, sym, ap, ◌∙◌, inl, inr, subst, le_refl, arith, pow-suc, le-div_iff_mul-le, div-div-eq-div-mul, mul_comm, fill_by_all, get_or-map-range_with_len, length-map-range_with_len, pow_pos, range_with_len, IsStep, IsRow, chain, HasStepChains}
 use Rattle.cn_spec.proofs.Tree.{even-or-odd}
 use Rattle.cn_spec.proofs.Pairs.{firsts, seconds, length-firsts, length-seconds, get-or-firsts, get-or-seconds}
 use Rattle.cn_spec.proofs.Rows.{firsts-row, seconds-row}

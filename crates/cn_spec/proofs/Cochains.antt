@@ -1,10 +1,5 @@
 -- The cochains by pairs of neighbours: each takes one of a pair, A the first of the first pair, then the second, and so on in turn.
-use Rattle.std.proofs.Common.{◌≡◌, ℕ, zero, suc, ◌+◌, ◌-◌, ◌*◌, ◌/◌, ◌%◌, ◌<◌, ◌^◌, Bool, true, false, List, [], ◌∷◌, length, get_or, refl, sym, ap, ◌∙◌, arith}
-use Rattle.std.proofs.Math.Nat.{pow-suc}
-use Rattle.std.proofs.lemmas.List.FromFn.{fill_by_all}
-use Rattle.std.proofs.lemmas.List.Sums.{sum_by-cons}
-use Rattle.std.specs.List.{sum}
-use Rattle.cn_spec.specs.Networks.{IsRow, a_cochain, b_cochain}
+use Rattle.cn_spec.proofs.Common.{◌≡◌, ℕ, zero, suc, ◌+◌, ◌-◌, ◌*◌, ◌/◌, ◌%◌, ◌<◌, ◌^◌, Bool, true, false, List, [], ◌∷◌, length, get_or, refl, sym, ap, ◌∙◌, arith, pow-suc, fill_by_all, sum_by-cons, sum, IsRow, a_cochain, b_cochain}
 use Rattle.cn_spec.proofs.Pairs.{firsts, seconds}
 use Rattle.cn_spec.proofs.Rows.{half-row}
 

@@ -1,12 +1,6 @@
 -- How many of the numbers below k are i modulo w: the share of i; and of k numbers from m on.
-use Rattle.std.proofs.Common.{◌≡◌, ℕ, zero, suc, ◌+◌, ◌-◌, ◌%◌, ◌<◌, cond, Bool, List, [], ◌∷◌, map, ap, ◌∙◌, arith, add-zero}
+use Rattle.cn_spec.proofs.Common.{◌≡◌, ℕ, zero, suc, ◌+◌, ◌-◌, ◌%◌, ◌<◌, cond, Bool, List, [], ◌∷◌, map, ap, ◌∙◌, arith, add-zero, sum_by-IsPermutation, sum_by-append, sum_by-cons, nat_tests, fill_by_all, get_or-map-range_with_len, length-map-range_with_len, count_by, range_with_len, IsEachBelow, counts_after, counts_of, share, shares, shares_after}
 use Rattle.std.specs.Prelude.{◌==◌}
-use Rattle.std.proofs.lemmas.List.Sorted.{sum_by-IsPermutation}
-use Rattle.std.proofs.lemmas.List.Sums.{sum_by-append, sum_by-cons}
-use Rattle.std.proofs.lemmas.Bool.Decides.{nat_tests}
-use Rattle.std.proofs.lemmas.List.FromFn.{fill_by_all, get_or-map-range_with_len, length-map-range_with_len}
-use Rattle.std.specs.List.{count_by, range_with_len}
-use Rattle.cn_spec.specs.Step.{IsEachBelow, counts_after, counts_of, share, shares, shares_after}
 use Rattle.cn_spec.proofs.Names.{range_next, share-next, share-stays}
 use Rattle.cn_spec.proofs.Shares.{share-is}
 

@@ -1,12 +1,5 @@
 -- A list in which each number below m stands once is an order of those numbers.
-use Rattle.std.proofs.Common.{◌≡◌, ℕ, zero, suc, ◌+◌, cond, eqb, List, [], ◌∷◌, ◌++◌, refl, sym, ap, subst, subst₂, append_assoc, arith}
-use Rattle.std.proofs.lemmas.Bool.{eq-eqb, lt-ltb, le-ltb}
-use Rattle.std.proofs.lemmas.Bool.Decides.{nat_tests}
-use Rattle.std.proofs.lemmas.List.Sorted.{IsPermutation-refl, IsPermutation-trans, IsPermutation-append_left, IsPermutation-append_right, IsPermutation-append_comm}
-use Rattle.std.specs.List.{range_with_len}
-use Rattle.std.specs.List.Sorted.{IsPermutation}
-use Rattle.cn_spec.specs.Step.{IsEachBelow}
-use Rattle.cn_spec.specs.Sums.{IsOnceBelow, once_below, times}
+use Rattle.cn_spec.proofs.Common.{◌≡◌, ℕ, zero, suc, ◌+◌, cond, eqb, List, [], ◌∷◌, ◌++◌, refl, sym, ap, subst, subst₂, append_assoc, arith, eq-eqb, lt-ltb, le-ltb, nat_tests, IsPermutation-refl, IsPermutation-trans, IsPermutation-append_left, IsPermutation-append_right, IsPermutation-append_comm, range_with_len, IsPermutation, IsEachBelow, IsOnceBelow, once_below, times}
 use Rattle.cn_spec.proofs.Times.{times-append, times-cons, times-parts}
 use Rattle.cn_spec.proofs.Names.{range_next}
 

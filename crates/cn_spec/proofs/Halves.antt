@@ -1,6 +1,5 @@
 -- The two halves of what passes a balancer.
-use Rattle.std.proofs.Common.{◌≡◌, ℕ, ◌+◌, ◌≤◌, arith}
-use Rattle.cn_spec.specs.Step.{half}
+use Rattle.cn_spec.proofs.Common.{◌≡◌, ℕ, ◌+◌, ◌≤◌, arith, half}
 
 pub half-sum : (n : ℕ) → half n 0 + half n 1 ≡ n
 half-sum n = omega arith

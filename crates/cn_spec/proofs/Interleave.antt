@@ -1,6 +1,5 @@
 -- Rows of which every second entry is known.
-use Rattle.std.proofs.Common.{◌≡◌, ℕ, zero, suc, ◌+◌, List, [], ◌∷◌, length, get_or, refl, arith}
-use Rattle.cn_spec.specs.Networks.{interleave}
+use Rattle.cn_spec.proofs.Common.{◌≡◌, ℕ, zero, suc, ◌+◌, List, [], ◌∷◌, length, get_or, refl, arith, interleave}
 
 pub length-interleave : (x y : List ℕ) → length x ≡ length y → length (interleave x y) ≡ length x + length x
 length-interleave [] y e = refl

@@ -1,9 +1,5 @@
 -- A layer of balancers.
-use Rattle.std.proofs.Common.{◌≡◌, ℕ, ◌+◌, ◌*◌, List, [], ◌∷◌, ◌++◌, length, refl, ap, arith}
-use Rattle.std.proofs.lemmas.List.Sums.{sum_by-cons}
-use Rattle.std.specs.List.{sum}
-use Rattle.cn_spec.specs.Step.{half}
-use Rattle.cn_spec.specs.Networks.{layer}
+use Rattle.cn_spec.proofs.Common.{◌≡◌, ℕ, ◌+◌, ◌*◌, List, [], ◌∷◌, ◌++◌, length, refl, ap, arith, sum_by-cons, sum, half, layer}
 
 pub length-layer : (x y : List ℕ) → length x ≡ length y → length (layer x y) ≡ length x * 2
 length-layer [] y e = refl

@@ -1,3 +1,4 @@
+mod Common
 pub mod Sums
 pub mod Times
 pub mod Halves

@@ -1,9 +1,5 @@
 -- Merger: of two rows with the step property it makes the tree's row of their sum.
-use Rattle.std.proofs.Common.{◌≡◌, ℕ, zero, suc, ◌+◌, ◌<◌, ◌≤◌, ◌^◌, List, [], ◌∷◌, refl, sym, ap, ap₂, ◌∙◌, inl, inr, subst, arith}
-use Rattle.std.specs.List.{sum}
-use Rattle.std.proofs.lemmas.Bool.{cases_lt}
-use Rattle.cn_spec.specs.Step.{half, shares, IsStep}
-use Rattle.cn_spec.specs.Networks.{IsRow, evens, odds, interleave, layer, merge, tree}
+use Rattle.cn_spec.proofs.Common.{◌≡◌, ℕ, zero, suc, ◌+◌, ◌<◌, ◌≤◌, ◌^◌, List, [], ◌∷◌, refl, sym, ap, ap₂, ◌∙◌, inl, inr, subst, arith, sum, cases_lt, half, shares, IsStep, IsRow, evens, odds, interleave, layer, merge, tree}
 use Rattle.cn_spec.proofs.Pairs.{firsts, seconds, evens-firsts, odds-seconds, firsts-interleave, seconds-interleave}
 use Rattle.cn_spec.proofs.Layers.{sum-layer}
 use Rattle.cn_spec.proofs.Rows.{evens-row, odds-row, layer_row, sum-evens-odds}

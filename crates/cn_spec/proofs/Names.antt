@@ -1,13 +1,5 @@
 -- The names that the exits give out are the numbers below m, each once.
-use Rattle.std.proofs.Common.{◌≡◌, ℕ, zero, suc, ◌+◌, ◌-◌, ◌*◌, ◌/◌, ◌%◌, ◌≤◌, ◌<◌, ◌≢◌, ◌↔◌, List, [], ◌∷◌, ◌++◌, map, refl, sym, ap, ap₂, ◌∙◌, inl, inr, subst, subst₂, append_assoc, arith}
-use Rattle.std.proofs.Math.Nat.{eq-or-lt_of_le, le-div_iff_mul-le, div-add-mod', mod-add-div}
-use Rattle.std.proofs.lemmas.Bool.{cases_order}
-use Rattle.std.proofs.lemmas.Nat.{mod_below, div-mul-add, mod-mul-add}
-use Rattle.std.proofs.lemmas.List.FromFn.{map-range_with_len_more}
-use Rattle.std.proofs.lemmas.List.Sorted.{IsPermutation-refl, IsPermutation-trans, IsPermutation-append_left, IsPermutation-append_right, IsPermutation-append_comm}
-use Rattle.std.specs.List.{range_with_len, flat_map}
-use Rattle.std.specs.List.Sorted.{IsPermutation}
-use Rattle.cn_spec.specs.Step.{share, name_of, names_at, names, IsEachBelow}
+use Rattle.cn_spec.proofs.Common.{◌≡◌, ℕ, zero, suc, ◌+◌, ◌-◌, ◌*◌, ◌/◌, ◌%◌, ◌≤◌, ◌<◌, ◌≢◌, ◌↔◌, List, [], ◌∷◌, ◌++◌, map, refl, sym, ap, ap₂, ◌∙◌, inl, inr, subst, subst₂, append_assoc, arith, eq-or-lt_of_le, le-div_iff_mul-le, div-add-mod', mod-add-div, cases_order, mod_below, div-mul-add, mod-mul-add, map-range_with_len_more, IsPermutation-refl, IsPermutation-trans, IsPermutation-append_left, IsPermutation-append_right, IsPermutation-append_comm, range_with_len, flat_map, IsPermutation, share, name_of, names_at, names, IsEachBelow}
 use Rattle.cn_spec.proofs.Shares.{share-is}
 
 -- a name is below m where its visit is below the share of its exit

@@ -1,10 +1,5 @@
 -- The even and the odd subsequence by pairs of neighbours.
-use Rattle.std.proofs.Common.{◌≡◌, ℕ, zero, suc, ◌+◌, ◌*◌, ◌/◌, ◌<◌, List, [], ◌∷◌, length, get_or, refl, sym, ap, ◌∙◌, arith}
-use Rattle.std.proofs.lemmas.List.FromFn.{fill_by_all}
-use Rattle.std.proofs.lemmas.List.Sums.{sum_by-cons}
-use Rattle.std.specs.List.{sum}
-use Rattle.cn_spec.specs.Step.{IsStep}
-use Rattle.cn_spec.specs.Networks.{evens, odds, interleave}
+use Rattle.cn_spec.proofs.Common.{◌≡◌, ℕ, zero, suc, ◌+◌, ◌*◌, ◌/◌, ◌<◌, List, [], ◌∷◌, length, get_or, refl, sym, ap, ◌∙◌, arith, fill_by_all, sum_by-cons, sum, IsStep, evens, odds, interleave}
 
 abbrev pub firsts : List ℕ → List ℕ
 firsts (a ∷ b ∷ x) = a ∷ firsts x

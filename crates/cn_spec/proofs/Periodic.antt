@@ -1,8 +1,5 @@
 -- Periodic: its counts are the shares of the sum of its row.
-use Rattle.std.proofs.Common.{◌≡◌, ℕ, zero, suc, ◌≤◌, ◌^◌, List, refl, ◌∙◌, le_refl, arith}
-use Rattle.std.specs.List.{sum}
-use Rattle.cn_spec.specs.Step.{shares, IsStep}
-use Rattle.cn_spec.specs.Networks.{IsRow, block, blocks, periodic}
+use Rattle.cn_spec.proofs.Common.{◌≡◌, ℕ, zero, suc, ◌≤◌, ◌^◌, List, refl, ◌∙◌, le_refl, arith, sum, shares, IsStep, IsRow, block, blocks, periodic}
 use Rattle.cn_spec.proofs.Bitonic.{row_steps}
 use Rattle.cn_spec.proofs.Chains.{StepChains, all-step-chains}
 use Rattle.cn_spec.proofs.Blocks.{block-row, sum-block, block-chains}

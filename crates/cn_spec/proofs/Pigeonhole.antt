@@ -1,12 +1,6 @@
 -- A list of m numbers in which each number below m stands is an order of those numbers, and in an order of them each
 -- stands once.
-use Rattle.std.proofs.Common.{◌≡◌, ℕ, zero, suc, ◌+◌, ◌≤◌, ◌<◌, cond, eqb, List, [], ◌∷◌, ◌++◌, length, ap, ◌∙◌, length-append, arith}
-use Rattle.std.proofs.lemmas.Bool.{ne_eqb}
-use Rattle.std.proofs.lemmas.Bool.Decides.{nat_tests}
-use Rattle.std.proofs.lemmas.List.Sorted.{IsPermutation-refl}
-use Rattle.std.specs.List.{range_with_len}
-use Rattle.cn_spec.specs.Step.{IsEachBelow}
-use Rattle.cn_spec.specs.Sums.{IsOnceBelow, once_below, times}
+use Rattle.cn_spec.proofs.Common.{◌≡◌, ℕ, zero, suc, ◌+◌, ◌≤◌, ◌<◌, cond, eqb, List, [], ◌∷◌, ◌++◌, length, ap, ◌∙◌, length-append, arith, ne_eqb, nat_tests, IsPermutation-refl, range_with_len, IsEachBelow, IsOnceBelow, once_below, times}
 use Rattle.cn_spec.proofs.EachBelow.{each_more, once-next}
 use Rattle.cn_spec.proofs.Names.{range_next}
 use Rattle.cn_spec.proofs.Times.{times-append, times-cons, times-nil, times-order, times-parts}

@@ -1,10 +1,5 @@
 -- How long the parts of a row are, and that they are all of it.
-use Rattle.std.proofs.Common.{◌≡◌, ℕ, zero, suc, ◌+◌, ◌-◌, ◌*◌, ◌/◌, ◌<◌, ◌^◌, List, length, take, drop, sym, ap, ◌∙◌, length-drop, length-take-le, arith}
-use Rattle.std.proofs.Math.Nat.{pow-suc, pow-succ'}
-use Rattle.std.proofs.lemmas.Nat.{pow_below, pow_pos}
-use Rattle.std.proofs.lemmas.List.Sums.{sum_by-take-drop}
-use Rattle.std.specs.List.{sum}
-use Rattle.cn_spec.specs.Networks.{IsRow, evens, odds, layer}
+use Rattle.cn_spec.proofs.Common.{◌≡◌, ℕ, zero, suc, ◌+◌, ◌-◌, ◌*◌, ◌/◌, ◌<◌, ◌^◌, List, length, take, drop, sym, ap, ◌∙◌, length-drop, length-take-le, arith, pow-suc, pow-succ', pow_below, pow_pos, sum_by-take-drop, sum, IsRow, evens, odds, layer}
 use Rattle.cn_spec.proofs.Pairs.{firsts, seconds, length-firsts, length-seconds, evens-firsts, odds-seconds, sum-firsts-seconds}
 use Rattle.cn_spec.proofs.Layers.{length-layer}
 

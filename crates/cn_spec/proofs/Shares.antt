@@ -1,11 +1,5 @@
 -- The step property and the shares `share m w i`.
-use Rattle.std.proofs.Common.{◌≡◌, ℕ, zero, suc, ◌+◌, ◌-◌, ◌*◌, ◌/◌, ◌%◌, ◌≤◌, ◌<◌, ◌↔◌, List, [], ◌∷◌, length, get_or, refl, sym, ap, ◌∙◌, subst, arith}
-use Rattle.std.proofs.Math.Nat.{div-eq_of_lt-le, le-div_iff_mul-le, div-lt_iff_lt-mul, div-mul-le_self, div-add-mod', lt-div-mul-add}
-use Rattle.std.proofs.lemmas.Nat.{mod_below}
-use Rattle.std.proofs.lemmas.List.Sums.{sum_by-cons}
-use Rattle.std.proofs.lemmas.List.FromFn.{get_or-map-range_with_len, length-map-range_with_len, fill_by_all}
-use Rattle.std.specs.List.{sum}
-use Rattle.cn_spec.specs.Step.{share, shares, IsStep}
+use Rattle.cn_spec.proofs.Common.{◌≡◌, ℕ, zero, suc, ◌+◌, ◌-◌, ◌*◌, ◌/◌, ◌%◌, ◌≤◌, ◌<◌, ◌↔◌, List, [], ◌∷◌, length, get_or, refl, sym, ap, ◌∙◌, subst, arith, div-eq_of_lt-le, le-div_iff_mul-le, div-lt_iff_lt-mul, div-mul-le_self, div-add-mod', lt-div-mul-add, mod_below, sum_by-cons, get_or-map-range_with_len, length-map-range_with_len, fill_by_all, sum, share, shares, IsStep}
 
 -- ---- sums of rows that are c + 1 below place n and c from there on
 

@@ -1,9 +1,5 @@
 -- Sums over the places of a list, and over ranges.
-use Rattle.std.proofs.Common.{◌≡◌, ◌≢◌, ℕ, zero, suc, ◌+◌, ◌<◌, ◌≤◌, Bool, true, false, cond, List, [], ◌∷◌, ◌++◌, length, map, get_or, replicate, set, sum_by, refl, sym, ◌∙◌, inl, inr, arith, eqb, ltb, zero-add, slice_index, nat_eq, get_or-set_same, get_or-set_other, ap}
-use Rattle.std.proofs.lemmas.Bool.{cases_Bool, cases_eq, cases_lt, false_from_ne_true, le-ltb}
-use Rattle.std.proofs.lemmas.Bool.Decides.{nat_tests}
-use Rattle.std.proofs.lemmas.List.Sums.{sum_by-cons}
-use Rattle.cn_spec.specs.Sums.{when, one_more, total_where, sum_below}
+use Rattle.cn_spec.proofs.Common.{◌≡◌, ◌≢◌, ℕ, zero, suc, ◌+◌, ◌<◌, ◌≤◌, Bool, true, false, cond, List, [], ◌∷◌, ◌++◌, length, map, get_or, replicate, set, sum_by, refl, sym, ◌∙◌, inl, inr, arith, eqb, ltb, zero-add, slice_index, nat_eq, get_or-set_same, get_or-set_other, ap, cases_Bool, cases_eq, cases_lt, false_from_ne_true, le-ltb, nat_tests, sum_by-cons, when, one_more, total_where, sum_below}
 
 pub total-where-push : {A : Type 0} → (p : A → Bool) (xs : List A) (x : A) (f : ℕ → ℕ) → p x ≡ false
     → total_where p (xs ++ x ∷ []) f ≡ total_where p xs f

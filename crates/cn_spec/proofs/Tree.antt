@@ -1,11 +1,5 @@
 -- The tree's counts are the shares over 2 ^ level exits.
-use Rattle.std.proofs.Common.{◌≡◌, ℕ, zero, suc, ◌+◌, ◌-◌, ◌*◌, ◌/◌, ◌<◌, ◌^◌, ◌⊎◌, List, [], ◌∷◌, length, get_or, refl, sym, ap, ap₂, ◌∙◌, inl, inr, subst, arith}
-use Rattle.std.proofs.Math.Nat.{pow-suc, div-div-eq-div-mul}
-use Rattle.std.proofs.lemmas.Nat.{pow_pos}
-use Rattle.std.proofs.lemmas.List.FromFn.{fill_by_all}
-use Rattle.std.specs.List.{sum}
-use Rattle.cn_spec.specs.Step.{half, share, shares, IsStep}
-use Rattle.cn_spec.specs.Networks.{IsRow, interleave, tree}
+use Rattle.cn_spec.proofs.Common.{◌≡◌, ℕ, zero, suc, ◌+◌, ◌-◌, ◌*◌, ◌/◌, ◌<◌, ◌^◌, ◌⊎◌, List, [], ◌∷◌, length, get_or, refl, sym, ap, ap₂, ◌∙◌, inl, inr, subst, arith, pow-suc, div-div-eq-div-mul, pow_pos, fill_by_all, sum, half, share, shares, IsStep, IsRow, interleave, tree}
 use Rattle.cn_spec.proofs.Shares.{length-shares, get-or-shares, row_is-shares, shares-is_step, sum-shares}
 use Rattle.cn_spec.proofs.Interleave.{length-interleave, get-or-even, get-or-odd}
 

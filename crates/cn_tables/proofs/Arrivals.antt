@@ -1,12 +1,5 @@
 -- Counting the wires that end at each balancer and exit.
-use Rattle.std.proofs.Common.{◌≡◌, ℕ, ◌+◌, ◌<◌, false, eqb, List, ◌^◌, replicate, length, get_or, set, take, ◌∙◌, arith, length-set, get_or-set_same, get_or-set_other}
-use Rattle.std.proofs.lemmas.Bool.Decides.{nat_tests}
-use Rattle.std.proofs.lemmas.List.{take_more, length-replicate, get_or-replicate, length-take-le}
-use Rattle.cn_tables.specs.declared.end.End.{End}
-use Rattle.cn_tables.specs.declared.end.End.TheVariants.{Balancer, Exit}
-use Rattle.cn_spec.specs.Sums.{total_where}
-use Rattle.cn_tables.specs.Table.{is_end}
-use Rattle.cn_spec.proofs.CallerLemmas.{total-where-le, total-where-more}
+use Rattle.cn_tables.proofs.Common.{◌≡◌, ℕ, ◌+◌, ◌<◌, false, eqb, List, ◌^◌, replicate, length, get_or, set, take, ◌∙◌, arith, length-set, get_or-set_same, get_or-set_other, nat_tests, take_more, length-replicate, get_or-replicate, length-take-le, End, Balancer, Exit, total_where, is_end, total-where-le, total-where-more}
 
 -- how many of the first i wires end at each of n places, which are balancers or exits
 pub record Counts (place : ℕ → End) (n : ℕ) (ends : List End) (counts : List ℕ) (i : ℕ) : Type 0 where

@@ -1,11 +1,5 @@
 -- A full flow keeps the sum.
-use Rattle.std.proofs.Common.{◌≡◌, ℕ, zero, suc, ◌+◌, ◌*◌, ◌<◌, ◌≤◌, List, [], ◌∷◌, length, get_or, refl, ap, arith, zero-add}
-use Rattle.cn_tables.specs.declared.end.End.{End}
-use Rattle.cn_tables.specs.declared.end.End.TheVariants.{Balancer, Exit}
-use Rattle.cn_spec.specs.Step.{half}
-use Rattle.cn_spec.specs.Sums.{total_where, sum_below}
-use Rattle.cn_spec.proofs.CallerLemmas.{half-sum, sum-below-front, sum-below-none, sum-below-pick, sum-below-same, sum-below-zero}
-use Rattle.cn_tables.specs.Table.{Table, is_end, sum_at, Stands, IsWellFormed, IsFullFlow}
+use Rattle.cn_tables.proofs.Common.{◌≡◌, ℕ, zero, suc, ◌+◌, ◌*◌, ◌<◌, ◌≤◌, List, [], ◌∷◌, length, get_or, refl, ap, arith, zero-add, End, Balancer, Exit, half, total_where, sum_below, half-sum, sum-below-front, sum-below-none, sum-below-pick, sum-below-same, sum-below-zero, Table, is_end, sum_at, Stands, IsWellFormed, IsFullFlow}
 
 -- each place of the list is at one balancer or at one exit
 pub count-twice : (t : Table) (xs : List End) (f : ℕ → ℕ) → ((u : ℕ) → u < length xs → Stands t (get_or xs u (Balancer 0)))

@@ -1,12 +1,5 @@
 -- A full flow brings each end at most what entered.
-use Rattle.std.proofs.Common.{◌≡◌, ℕ, suc, ◌+◌, ◌*◌, ◌≤◌, List, [], ◌∷◌, length, refl, arith, eqb, ltb, zero-add}
-use Rattle.std.proofs.lemmas.Bool.Decides.{nat_tests}
-use Rattle.std.proofs.lemmas.Bool.{lt-ltb}
-use Rattle.cn_spec.specs.Sums.{when, total_where, sum_below}
-use Rattle.cn_spec.proofs.CallerLemmas.{sum-below-change, sum-below-cut, sum-below-front, sum-below-part, sum-below-same, sum-below-zero, total-where-agree}
-use Rattle.cn_tables.specs.declared.end.End.{End}
-use Rattle.cn_tables.specs.declared.end.End.TheVariants.{Balancer, Exit}
-use Rattle.cn_tables.specs.Table.{Table, is_end, sum_at, Stands, IsWellFormed, IsFullFlow}
+use Rattle.cn_tables.proofs.Common.{◌≡◌, ℕ, suc, ◌+◌, ◌*◌, ◌≤◌, List, [], ◌∷◌, length, refl, arith, eqb, ltb, zero-add, nat_tests, lt-ltb, when, total_where, sum_below, sum-below-change, sum-below-cut, sum-below-front, sum-below-part, sum-below-same, sum-below-zero, total-where-agree, End, Balancer, Exit, Table, is_end, sum_at, Stands, IsWellFormed, IsFullFlow}
 use Rattle.cn_tables.proofs.Conserve.{full-flow-sum, wires-sum}
 use Rattle.cn_tables.proofs.Flow.{older}
 

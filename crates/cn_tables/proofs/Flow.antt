@@ -1,11 +1,5 @@
 -- The full flows of a table are the flows of its plan. So one exists for all inputs, and is the only one.
-use Rattle.std.proofs.Common.{◌≡◌, ℕ, ◌+◌, ◌*◌, ◌<◌, ◌↔◌, List, true, length, get_or, arith}
-use Rattle.std.proofs.lemmas.List.{length-map}
-use Rattle.std.proofs.lemmas.Bool.{eqb-true}
-use Rattle.cn_tables.specs.declared.end.End.TheVariants.{Balancer, Exit}
-use Rattle.cn_spec.specs.Sums.{Agree}
-use Rattle.cn_tables.specs.Plan.{IsFlow, IsPath}
-use Rattle.cn_tables.specs.Table.{Table, balancer_of, is_end, LeadsOn, IsWellFormed, IsFullFlow, plan_of_table}
+use Rattle.cn_tables.proofs.Common.{◌≡◌, ℕ, ◌+◌, ◌*◌, ◌<◌, ◌↔◌, List, true, length, get_or, arith, length-map, eqb-true, Balancer, Exit, Agree, IsFlow, IsPath, Table, balancer_of, is_end, LeadsOn, IsWellFormed, IsFullFlow, plan_of_table}
 use Rattle.cn_tables.proofs.PlanFlow.{flow-exists, flow-unique, paths}
 use Rattle.cn_tables.proofs.Tables.{flow-plan, orderly-table, plan-flow}
 

@@ -1,11 +1,5 @@
 -- Each wire of a counting network has one level.
-use Rattle.std.proofs.Common.{◌≡◌, ℕ, zero, suc, ◌+◌, ◌-◌, ◌*◌, ◌<◌, ◌≤◌, ◌⊎◌, inl, inr, List, [], ◌∷◌, length, get_or, map, refl, ap, sym, ◌∙◌, arith, Some, None}
-use Rattle.std.proofs.lemmas.Bool.{cases_lt}
-use Rattle.std.proofs.lemmas.List.{get_or-map, length-map}
-use Rattle.cn_tables.specs.declared.end.End.{End}
-use Rattle.cn_tables.specs.declared.end.End.TheVariants.{Balancer, Exit}
-use Rattle.cn_tables.specs.Plan.{Feeds, IsPath, HasLevel}
-use Rattle.cn_tables.specs.Table.{Table, IsWellFormed, end_of, balancer_of, plan_of_table, HasDepth}
+use Rattle.cn_tables.proofs.Common.{◌≡◌, ℕ, zero, suc, ◌+◌, ◌-◌, ◌*◌, ◌<◌, ◌≤◌, ◌⊎◌, inl, inr, List, [], ◌∷◌, length, get_or, map, refl, ap, sym, ◌∙◌, arith, Some, None, cases_lt, get_or-map, length-map, End, Balancer, Exit, Feeds, IsPath, HasLevel, Table, IsWellFormed, end_of, balancer_of, plan_of_table, HasDepth}
 use Rattle.cn_tables.specs.Levels.{CountsPaths, IsLevel}
 use Rattle.cn_tables.proofs.PlanFlow.{paths}
 use Rattle.cn_tables.proofs.Tables.{ahead, orderly-table}

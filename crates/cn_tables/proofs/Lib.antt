@@ -1,3 +1,4 @@
+mod Common
 pub mod Flow
 pub mod Conserve
 pub mod Few

@@ -1,11 +1,5 @@
 -- A flow of a plan exists and is the only one, and there is a path to each wire.
-use Rattle.std.proofs.Common.{◌≡◌, ℕ, zero, suc, ◌+◌, ◌-◌, ◌*◌, ◌<◌, ◌≤◌, inl, inr, Bool, true, false, cond, List, [], ◌∷◌, length, get_or, refl, ap, sym, ◌∙◌, arith, ltb, add-zero, zero-add, Option, Some, None}
-use Rattle.std.proofs.lemmas.Bool.{cases_eq, cases_lt, eqb-true, lt-ltb, le-ltb}
-use Rattle.cn_spec.specs.Step.{half}
-use Rattle.cn_spec.specs.Sums.{when, total_where}
-use Rattle.cn_spec.specs.Sums.{Agree}
-use Rattle.cn_tables.specs.Plan.{Plan, IsFlow, passages, ends_at, IsPath, IsOrderly}
-use Rattle.cn_spec.proofs.CallerLemmas.{total-where-agree}
+use Rattle.cn_tables.proofs.Common.{◌≡◌, ℕ, zero, suc, ◌+◌, ◌-◌, ◌*◌, ◌<◌, ◌≤◌, inl, inr, Bool, true, false, cond, List, [], ◌∷◌, length, get_or, refl, ap, sym, ◌∙◌, arith, ltb, add-zero, zero-add, Option, Some, None, cases_eq, cases_lt, eqb-true, lt-ltb, le-ltb, half, when, total_where, Agree, Plan, IsFlow, passages, ends_at, IsPath, IsOrderly, total-where-agree}
 
 -- what ends at b
 at_some : (b : ℕ) (x : Option ℕ) → ends_at b x ≡ true → x ≡ Some b

@@ -1,12 +1,5 @@
 -- A well-formed table as a plan.
-use Rattle.std.proofs.Common.{◌≡◌, ℕ, ◌+◌, ◌*◌, ◌<◌, inl, inr, length, get_or, map, refl, ap, sym, ◌∙◌, arith, Some, None, subst, add-zero}
-use Rattle.std.proofs.lemmas.Bool.{cases_lt}
-use Rattle.std.proofs.lemmas.List.{get_or-map, get_or_past, length-map}
-use Rattle.cn_tables.specs.declared.end.End.{End}
-use Rattle.cn_tables.specs.declared.end.End.TheVariants.{Balancer, Exit}
-use Rattle.cn_tables.specs.Plan.{IsFlow, ends_at, passages, IsOrderly}
-use Rattle.cn_tables.specs.Table.{Table, IsWellFormed, IsFullFlow, Stands, LeadsOn, is_end, sum_at, end_of, balancer_of, plan_of_table}
-use Rattle.cn_spec.proofs.CallerLemmas.{total-where-map, total-where-tests}
+use Rattle.cn_tables.proofs.Common.{◌≡◌, ℕ, ◌+◌, ◌*◌, ◌<◌, inl, inr, length, get_or, map, refl, ap, sym, ◌∙◌, arith, Some, None, subst, add-zero, cases_lt, get_or-map, get_or_past, length-map, End, Balancer, Exit, IsFlow, ends_at, passages, IsOrderly, Table, IsWellFormed, IsFullFlow, Stands, LeadsOn, is_end, sum_at, end_of, balancer_of, plan_of_table, total-where-map, total-where-tests}
 
 same_test : (b : ℕ) (e : End) → ends_at b (balancer_of e) ≡ is_end (Balancer b) e
 same_test b (Balancer c) = refl

@@ -1,3 +1,4 @@
+mod Common
 pub mod Walks
 pub mod Ordered
 pub mod SweptWalks

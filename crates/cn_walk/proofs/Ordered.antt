@@ -1,22 +1,9 @@
 -- Clients who are named one by one in a lane that has the whole quota: they get the next names in their order.
-use Rattle.std.proofs.Common.{◌≡◌, ℕ, zero, suc, ◌+◌, ◌<◌, ◌≤◌, inl, inr, cond, eqb, List, [], ◌∷◌, ◌++◌, length, get_or, map, take, refl, sym, ap, ◌∙◌, subst, arith, append-nil}
+use Rattle.cn_walk.proofs.Common.{◌≡◌, ℕ, zero, suc, ◌+◌, ◌<◌, ◌≤◌, inl, inr, cond, eqb, List, [], ◌∷◌, ◌++◌, length, get_or, map, take, refl, sym, ap, ◌∙◌, subst, arith, append-nil, append_assoc, length-map, map-append, take_more, IsEachBelow, times, once-next, once_each, times-append, times-cons, times-nil, Client, tokens_in, Grant, Start, View, FloorValue, LaneValue, IsNamed, ending-at, GrantsInOrder, IsSole}
 use Rattle.std.specs.List.{range_with_len}
 use Rattle.std.proofs.lemmas.Bool.{cases_eq, eq-eqb, ne_eqb}
-use Rattle.std.proofs.lemmas.List.{append_assoc, length-map, map-append, take_more}
-use Rattle.cn_spec.specs.Step.{IsEachBelow}
-use Rattle.cn_spec.specs.Sums.{times}
-use Rattle.cn_spec.proofs.CallerLemmas.{once-next, once_each, times-append, times-cons, times-nil}
-use Rattle.cn_ledger.specs.declared.client.Client.{Client}
-use Rattle.cn_yard.specs.Lists.{tokens_in}
-use Rattle.cn_floor.specs.declared.view.Grant.{Grant}
-use Rattle.cn_floor.specs.declared.view.Start.{Start}
-use Rattle.cn_floor.specs.declared.view.View.{View}
-use Rattle.cn_floor.specs.Lane.{FloorValue, LaneValue}
 use Rattle.cn_floor.specs.Rule.{IsStart}
-use Rattle.cn_floor.specs.Named.{IsNamed}
 use Rattle.cn_floor.specs.Steps.{StoodInState}
-use Rattle.cn_floor.proofs.CallerLemmas.{ending-at}
-use Rattle.cn_walk.specs.Walks.{GrantsInOrder, IsSole}
 use Rattle.cn_walk.proofs.Walks.{length-both}
 
 -- ---- one after the other

@@ -1,18 +1,6 @@
 -- Two walks side by side, and their lanes taken together.
-use Rattle.std.proofs.Common.{rules, Option, Some, None, IfSome, ◌≡◌, ℕ, ◌+◌, ◌-◌, ◌*◌, ◌/◌, ◌<◌, ◌≤◌, subst, eqb, cond, List, [], ◌++◌, length, map, max, min, sym, refl, ap, ◌∙◌, arith, append-nil}
-use Rattle.std.proofs.Math.Nat.{div-mul-le_self, mul-le-mul_right}
-use Rattle.std.proofs.lemmas.List.{append_assoc, map-append}
-use Rattle.std.proofs.lemmas.Nat.{le-div}
-use Rattle.std.proofs.lemmas.List.Sums.{sum_by-append}
-use Rattle.cn_ledger.specs.declared.client.Client.{Client}
-use Rattle.cn_walk.specs.declared.forking.Lanes.{Lanes}
+use Rattle.cn_walk.proofs.Common.{rules, Option, Some, None, IfSome, ◌≡◌, ℕ, ◌+◌, ◌-◌, ◌*◌, ◌/◌, ◌<◌, ◌≤◌, subst, eqb, cond, List, [], ◌++◌, length, map, max, min, sym, refl, ap, ◌∙◌, arith, append-nil, div-mul-le_self, mul-le-mul_right, append_assoc, map-append, le-div, sum_by-append, Client, Lanes, Grant, AreOf, AreReady, HasNothing, IsOne, IsPair, IsReady, first_position, together, whole, FloorValue, LaneValue, empty_lane, with_rooms, after_look, after_split, split_off, WalksAll, nobody-in}
 use Rattle.cn_walk.specs.declared.forking.Lanes.TheVariants.{One, Fork'}
-use Rattle.cn_floor.specs.declared.view.Grant.{Grant}
-use Rattle.cn_walk.specs.Parts.{AreOf, AreReady, HasNothing, IsOne, IsPair, IsReady, first_position, together, whole}
-use Rattle.cn_floor.specs.Lane.{FloorValue, LaneValue, empty_lane, with_rooms}
-use Rattle.cn_floor.specs.Views.{after_look, after_split, split_off}
-use Rattle.cn_walk.specs.Walks.{WalksAll}
-use Rattle.cn_floor.proofs.CallerLemmas.{nobody-in}
 use Rattle.cn_walk.proofs.Walks.{length-both}
 
 -- how many forks there are

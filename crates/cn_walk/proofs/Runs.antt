@@ -1,28 +1,9 @@
 -- A quiet floor on which nobody but these clients walked.
-use Rattle.std.proofs.Common.{◌≡◌, ℕ, ◌+◌, ◌-◌, ◌*◌, ◌/◌, ◌<◌, List, [], ◌++◌, length, get_or, map, sym, refl, ap, ◌∙◌, subst, arith}
+use Rattle.cn_walk.proofs.Common.{◌≡◌, ℕ, ◌+◌, ◌-◌, ◌*◌, ◌/◌, ◌<◌, List, [], ◌++◌, length, get_or, map, sym, refl, ap, ◌∙◌, subst, arith, div-mul-add, IsEachBelow, shares_after, Agree, times, first-shares, Balancer, Table, sum_at, Yard, tokens_in, Client, Grant, Start, View, WordsValue, client_count, words_before, zero_words, IsMissing, HasNothing, IsReady, first_position, FloorValue, IsIdle, LaneValue, empty_lane, IsRun, IsRunAfter, base, AreFor, AreInOrder, GrantsInOrder, IsSole, WalksAll, count-word, map-same, nobody-in, none-came, none-counted, none-entered}
 use Rattle.std.proofs.lemmas.List.Sorted.{IsPermutation-refl}
-use Rattle.std.proofs.lemmas.Nat.{div-mul-add}
-use Rattle.cn_spec.specs.Step.{IsEachBelow, shares_after}
-use Rattle.cn_spec.specs.Sums.{Agree, times}
-use Rattle.cn_spec.proofs.CallerLemmas.{first-shares}
-use Rattle.cn_tables.specs.declared.end.End.TheVariants.{Balancer}
 use Rattle.cn_tables.specs.Network.{Network}
-use Rattle.cn_tables.specs.Table.{Table, sum_at}
-use Rattle.cn_yard.specs.Lists.{Yard, tokens_in}
-use Rattle.cn_ledger.specs.declared.client.Client.{Client}
-use Rattle.cn_floor.specs.declared.view.Grant.{Grant}
-use Rattle.cn_floor.specs.declared.view.Start.{Start}
-use Rattle.cn_floor.specs.declared.view.View.{View}
-use Rattle.cn_floor.specs.Carried.{WordsValue, client_count, words_before, zero_words}
-use Rattle.cn_floor.specs.Closing.{IsMissing}
 use Rattle.cn_floor.specs.Ends.{IsClosedFloor, QuietValue}
-use Rattle.cn_walk.specs.Parts.{HasNothing, IsReady, first_position}
-use Rattle.cn_floor.specs.Lane.{FloorValue, IsIdle, LaneValue, empty_lane}
-use Rattle.cn_walk.specs.Runs.{IsRun, IsRunAfter}
-use Rattle.cn_floor.specs.Views.{base}
-use Rattle.cn_walk.specs.Walks.{AreFor, AreInOrder, GrantsInOrder, IsSole, WalksAll}
 use Rattle.cn_floor.specs.Words.{count_in, entered_in}
-use Rattle.cn_floor.proofs.CallerLemmas.{count-word, map-same, nobody-in, none-came, none-counted, none-entered}
 
 -- all clients lie between the first of the first worker and that of the one after the last
 pub all-first : (k w : ℕ) → 0 < w → first_position k w w - first_position k w 0 ≡ k

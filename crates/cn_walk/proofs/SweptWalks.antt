@@ -1,22 +1,7 @@
 -- What a sweep is to a walk.
-use Rattle.std.proofs.Common.{◌≡◌, ℕ, ◌+◌, ◌-◌, ◌*◌, ◌%◌, ◌<◌, ◌≤◌, List, [], ◌∷◌, ◌++◌, length, sum_by, refl, sym, ap, ◌∙◌, subst, arith, append-nil}
-use Rattle.std.proofs.lemmas.List.Sums.{sum_by-cons}
-use Rattle.std.proofs.lemmas.Nat.{mod_below}
-use Rattle.cn_spec.specs.Step.{name_of}
-use Rattle.cn_tables.specs.declared.end.End.{End}
-use Rattle.cn_tables.specs.declared.end.End.TheVariants.{Balancer, Exit}
-use Rattle.cn_tables.specs.Table.{IsWellFormed, LeadsOn, Stands, Table, end_of, output_wire}
-use Rattle.cn_ledger.specs.declared.client.Client.{Client}
-use Rattle.cn_yard.specs.Lists.{IsThere, on, times_in, tokens_in}
-use Rattle.cn_floor.specs.declared.view.Grant.{Grant}
-use Rattle.cn_floor.specs.declared.view.Start.{Start}
+use Rattle.cn_walk.proofs.Common.{◌≡◌, ℕ, ◌+◌, ◌-◌, ◌*◌, ◌%◌, ◌<◌, ◌≤◌, List, [], ◌∷◌, ◌++◌, length, sum_by, refl, sym, ap, ◌∙◌, subst, arith, append-nil, sum_by-cons, mod_below, name_of, End, Balancer, Exit, IsWellFormed, LeadsOn, Stands, Table, end_of, output_wire, Client, IsThere, on, times_in, tokens_in, Grant, Start, View, LaneValue, after_step, base, Walks, inside_by, MayGo, goes-there, grants-kept, grants-left, kin-by, rest-may, some-inside}
 use Rattle.cn_floor.specs.declared.view.Sweep.{Sweep}
-use Rattle.cn_floor.specs.declared.view.View.{View}
-use Rattle.cn_floor.specs.Lane.{LaneValue}
 use Rattle.cn_floor.specs.Sweeps.{PutsAll, SweepsOn, after_steps, after_sweep, grants_out}
-use Rattle.cn_floor.specs.Views.{after_step, base}
-use Rattle.cn_walk.specs.Walks.{Walks, inside_by}
-use Rattle.cn_floor.proofs.CallerLemmas.{MayGo, goes-there, grants-kept, grants-left, kin-by, rest-may, some-inside}
 use Rattle.cn_walk.proofs.Walks.{IsHeld, left_by, less-left, less-passed, passed_by, steps_left}
 
 -- what the clients of tokens weigh that leave by an end

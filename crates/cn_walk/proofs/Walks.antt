@@ -1,22 +1,6 @@
 -- Walks one after the other, and what one step is to a walk.
-use Rattle.std.proofs.Common.{◌≡◌, ℕ, ◌+◌, ◌-◌, ◌*◌, ◌%◌, ◌<◌, ◌≤◌, cond, eqb, List, [], ◌∷◌, ◌++◌, length, get_or, map, sum_by, take, Some, sym, refl, ap, ◌∙◌, subst, arith, append-nil}
-use Rattle.std.proofs.lemmas.List.{append_assoc, map-append, take_more}
+use Rattle.cn_walk.proofs.Common.{◌≡◌, ℕ, ◌+◌, ◌-◌, ◌*◌, ◌%◌, ◌<◌, ◌≤◌, cond, eqb, List, [], ◌∷◌, ◌++◌, length, get_or, map, sum_by, take, Some, sym, refl, ap, ◌∙◌, subst, arith, append-nil, append_assoc, map-append, take_more, sum_by-append, sum_below, when, sum-below-one, sum-below-plus, sum-below-same, sum-below-shift, sum-below-zero, End, Balancer, Exit, IsWellFormed, output_wire, Client, IsThere, Yard, last_on, on, standing, times_in, tokens_in, without, Grant, View, LaneValue, LetsIn, IsNamed, after_enter, after_step, on_in, WalksAll, Walks, inside_by, Lands, at-none, at-one, inside-yard, none-on, ones, weigh-come, weigh-leave, weigh-pass, weighed-went}
 use Rattle.std.proofs.lemmas.List.FromFn.{length-map-range_with_len}
-use Rattle.std.proofs.lemmas.List.Sums.{sum_by-append}
-use Rattle.cn_spec.specs.Sums.{sum_below, when}
-use Rattle.cn_spec.proofs.CallerLemmas.{sum-below-one, sum-below-plus, sum-below-same, sum-below-shift, sum-below-zero}
-use Rattle.cn_tables.specs.declared.end.End.{End}
-use Rattle.cn_tables.specs.declared.end.End.TheVariants.{Balancer, Exit}
-use Rattle.cn_tables.specs.Table.{IsWellFormed, output_wire}
-use Rattle.cn_ledger.specs.declared.client.Client.{Client}
-use Rattle.cn_yard.specs.Lists.{IsThere, Yard, last_on, on, standing, times_in, tokens_in, without}
-use Rattle.cn_floor.specs.declared.view.Grant.{Grant}
-use Rattle.cn_floor.specs.declared.view.View.{View}
-use Rattle.cn_floor.specs.Lane.{LaneValue, LetsIn}
-use Rattle.cn_floor.specs.Named.{IsNamed}
-use Rattle.cn_floor.specs.Views.{after_enter, after_step, on_in}
-use Rattle.cn_walk.specs.Walks.{WalksAll, Walks, inside_by}
-use Rattle.cn_floor.proofs.CallerLemmas.{Lands, at-none, at-one, inside-yard, none-on, ones, weigh-come, weigh-leave, weigh-pass, weighed-went}
 
 -- a bound on the steps that are left to those inside: each step goes to a greater wire, or out
 abbrev pub steps_left : View → ℕ

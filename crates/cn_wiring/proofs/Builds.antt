@@ -1,9 +1,5 @@
 -- Parts of a network beside each other and one after the other.
-use Rattle.std.proofs.Common.{◌≡◌, ℕ, ◌+◌, inl, inr, List, [], ◌++◌, refl, ◌∙◌, arith}
-use Rattle.std.proofs.lemmas.Bool.{cases_lt}
-use Rattle.cn_spec.specs.Sums.{times}
-use Rattle.cn_tables.specs.Plan.{Plan, AllLoose, Builds}
-use Rattle.cn_spec.proofs.CallerLemmas.{times-append}
+use Rattle.cn_wiring.proofs.Common.{◌≡◌, ℕ, ◌+◌, inl, inr, List, [], ◌++◌, refl, ◌∙◌, arith, cases_lt, times, Plan, AllLoose, Builds, times-append}
 use Rattle.cn_wiring.proofs.Marks.{below_from-loose}
 
 pub Builds-none : (d : Plan) (depth : ℕ) → Builds d d [] [] depth 0

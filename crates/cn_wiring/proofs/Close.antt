@@ -1,16 +1,5 @@
 -- The exits of a plan.
-use Rattle.std.proofs.Common.{◌≡◌, ℕ, ◌+◌, ◌<◌, ◌≤◌, inl, inr, true, false, List, length, get_or, set, map, refl, ap, sym, ◌∙◌, arith, Option, Some, None, subst}
-use Rattle.std.specs.Option.{is_none}
-use Rattle.std.proofs.lemmas.Bool.{cases_eq, eq-eqb, eqb-true}
-use Rattle.std.proofs.lemmas.List.{map-set, set-get_or, get_or-set_same, get_or-set_other, length-map, get_or-map, get_or_default}
-use Rattle.cn_tables.specs.declared.end.End.{End}
-use Rattle.cn_tables.specs.declared.end.End.TheVariants.{Balancer, Exit}
-use Rattle.cn_spec.specs.Sums.{when, times}
-use Rattle.cn_tables.specs.Plan.{Plan, passages, loose, Each, HasLevel, IsOrderly}
-use Rattle.cn_tables.specs.Table.{Table, is_end, sum_at, Stands, LeadsOn, IsWellFormed, balancer_of, plan_of_table, EndsInOrder, HasDepth}
-use Rattle.cn_spec.specs.declared.limits.TheConstants.{MOST_ENDS}
-use Rattle.cn_spec.proofs.CallerLemmas.{times-member, times-place, times-two, total-where-one}
-use Rattle.cn_tables.proofs.CallerLemmas.{into-passages}
+use Rattle.cn_wiring.proofs.Common.{◌≡◌, ℕ, ◌+◌, ◌<◌, ◌≤◌, inl, inr, true, false, List, length, get_or, set, map, refl, ap, sym, ◌∙◌, arith, Option, Some, None, subst, is_none, cases_eq, eq-eqb, eqb-true, map-set, set-get_or, get_or-set_same, get_or-set_other, length-map, get_or-map, get_or_default, End, Balancer, Exit, when, times, Plan, passages, loose, Each, HasLevel, IsOrderly, Table, is_end, sum_at, Stands, LeadsOn, IsWellFormed, balancer_of, plan_of_table, EndsInOrder, HasDepth, MOST_ENDS, times-member, times-place, times-two, total-where-one, into-passages}
 use Rattle.cn_wiring.proofs.Marks.{below_from-loose, ends_at-loose, loose_in}
 
 at_most_one : (es : List (Option ℕ)) (w : ℕ) → loose_in es w ≤ 1

@@ -1,11 +1,5 @@
 -- A draft with no balancer.
-use Rattle.std.proofs.Common.{◌≡◌, ℕ, inl, inr, [], ◌∷◌, get_or, replicate, refl, sym, ◌∙◌, arith, Option, Some, None}
-use Rattle.std.specs.List.{range_with_len}
-use Rattle.std.proofs.lemmas.Bool.{cases_lt}
-use Rattle.std.proofs.lemmas.List.{get_or_past, length-replicate, get_or-replicate}
-use Rattle.cn_spec.specs.Sums.{times}
-use Rattle.cn_tables.specs.Plan.{entries_alone, loose, HasLevel}
-use Rattle.cn_spec.proofs.CallerLemmas.{times-inside, times-outside}
+use Rattle.cn_wiring.proofs.Common.{◌≡◌, ℕ, inl, inr, [], ◌∷◌, get_or, replicate, refl, sym, ◌∙◌, arith, Option, Some, None, range_with_len, cases_lt, get_or_past, length-replicate, get_or-replicate, times, entries_alone, loose, HasLevel, times-inside, times-outside}
 
 module _ (n : ℕ) where
   pub loose-entries : (w : ℕ) → loose (entries_alone n) w ≡ times w (range_with_len 0 n)

@@ -1,19 +1,8 @@
 -- Drafts of whole networks, and the networks that are finished of them.
-use Rattle.std.proofs.Common.{◌≡◌, ℕ, ◌+◌, ◌^◌, ◌<◌, List, length, get_or, map, sym, ap, ◌∙◌, subst, arith, zero-add}
-use Rattle.std.specs.List.{range_with_len}
-use Rattle.std.proofs.lemmas.List.{get_or-map, length-map}
-use Rattle.std.proofs.lemmas.List.FromFn.{fill_by_all}
-use Rattle.cn_spec.specs.Networks.{IsRow}
-use Rattle.cn_spec.specs.Step.{IsStep}
-use Rattle.cn_spec.specs.Sums.{times}
-use Rattle.cn_tables.specs.declared.end.End.TheVariants.{Exit}
+use Rattle.cn_wiring.proofs.Common.{◌≡◌, ℕ, ◌+◌, ◌^◌, ◌<◌, List, length, get_or, map, sym, ap, ◌∙◌, subst, arith, zero-add, range_with_len, get_or-map, length-map, fill_by_all, IsRow, IsStep, times, Exit, IsTableOf, Plan, Builds, Each, HasLevel, IsFlow, entries_alone, loose, Table, IsFullFlow, plan_of_table, sum_at, flow-plan}
 use Rattle.cn_tables.specs.declared.kind.Kind.{Kind}
 use Rattle.cn_wiring.specs.Built.{IsBuilt}
-use Rattle.cn_wiring.specs.Made.{IsTableOf}
 use Rattle.cn_tables.specs.Network.{Network, IsNetwork, exit_flows}
-use Rattle.cn_tables.specs.Plan.{Plan, Builds, Each, HasLevel, IsFlow, entries_alone, loose}
-use Rattle.cn_tables.specs.Table.{Table, IsFullFlow, plan_of_table, sum_at}
-use Rattle.cn_tables.proofs.CallerLemmas.{flow-plan}
 
 -- ---- by what finish ensures
 

@@ -1,13 +1,5 @@
 -- What a balancer over loose wires does to a plan.
-use Rattle.std.proofs.Common.{◌≡◌, ℕ, ◌+◌, ◌<◌, ◌≤◌, ◌⊎◌, inl, inr, false, List, [], ◌∷◌, ◌++◌, length, get_or, refl, ◌∙◌, arith, eqb, Some, None, length-append, sum_by, add-zero}
-use Rattle.std.proofs.lemmas.Bool.{cases_eq, eq-eqb, ne_eqb}
-use Rattle.std.proofs.lemmas.Bool.Decides.{nat_tests}
-use Rattle.std.proofs.lemmas.List.Sums.{sum_by-cons}
-use Rattle.cn_spec.specs.Step.{half}
-use Rattle.cn_spec.specs.Sums.{when, times}
-use Rattle.cn_tables.specs.Plan.{Plan, ends_at, passages, IsFlow, loose, AllLoose, IsPath, HasLevel, Each, Builds, next_wire, IsOrderly}
-use Rattle.cn_spec.specs.declared.limits.TheConstants.{MOST_BALANCERS}
-use Rattle.cn_spec.proofs.CallerLemmas.{total-where-none, total-where-push}
+use Rattle.cn_wiring.proofs.Common.{◌≡◌, ℕ, ◌+◌, ◌<◌, ◌≤◌, ◌⊎◌, inl, inr, false, List, [], ◌∷◌, ◌++◌, length, get_or, refl, ◌∙◌, arith, eqb, Some, None, length-append, sum_by, add-zero, cases_eq, eq-eqb, ne_eqb, nat_tests, sum_by-cons, half, when, times, Plan, ends_at, passages, IsFlow, loose, AllLoose, IsPath, HasLevel, Each, Builds, next_wire, IsOrderly, MOST_BALANCERS, total-where-none, total-where-push}
 use Rattle.cn_wiring.proofs.Marks.{AllLooseIn, below_from-end, below_from-loose, get-or-push-none, length-mark, loose_in, loose_in-mark, loose_in-push, mark, mark-at, mark-other, total-mark}
 
 -- the plan with one more balancer, at which ws end

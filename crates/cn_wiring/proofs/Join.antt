@@ -1,8 +1,5 @@
 -- A balancer over two loose wires, and one over a loose wire: the flows of the plan.
-use Rattle.std.proofs.Common.{◌≡◌, ℕ, ◌+◌, ◌<◌, [], ◌∷◌, length, set, arith, Some, length-set, sum_by, zero-add}
-use Rattle.cn_spec.specs.Step.{half}
-use Rattle.cn_spec.specs.Sums.{times}
-use Rattle.cn_tables.specs.Plan.{Plan, IsFlow, AllLoose, next_wire, IsOrderly}
+use Rattle.cn_wiring.proofs.Common.{◌≡◌, ℕ, ◌+◌, ◌<◌, [], ◌∷◌, length, set, arith, Some, length-set, sum_by, zero-add, half, times, Plan, IsFlow, AllLoose, next_wire, IsOrderly}
 use Rattle.cn_wiring.proofs.Marks.{AllLooseIn, below_from-loose, head-loose, tail-loose}
 use Rattle.cn_wiring.proofs.Grown.{flow-shrunk, grown, halves-grown}
 

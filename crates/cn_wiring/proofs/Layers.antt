@@ -1,13 +1,5 @@
 -- Balancers beside each other, one for each pair of wires.
-use Rattle.std.proofs.Common.{◌≡◌, ℕ, zero, suc, ◌+◌, ◌*◌, ◌<◌, ◌≤◌, List, [], ◌∷◌, ◌++◌, length, get_or, map, take, drop, refl, ap, sym, ◌∙◌, arith}
-use Rattle.std.specs.List.{range_with_len}
-use Rattle.std.proofs.lemmas.List.{drop_all, drop_more, take_more, take-append-drop, map-append, map_more, length-map, length-take-le, take_all}
-use Rattle.cn_spec.specs.Step.{half}
-use Rattle.cn_spec.specs.Sums.{times}
-use Rattle.cn_spec.specs.Networks.{layer}
-use Rattle.cn_spec.proofs.CallerLemmas.{layer-push, times-append}
-use Rattle.cn_wiring.specs.Made.{with_layer}
-use Rattle.cn_tables.specs.Plan.{Plan, IsFlow, AllLoose, Builds, next_wire, with_balancer}
+use Rattle.cn_wiring.proofs.Common.{◌≡◌, ℕ, zero, suc, ◌+◌, ◌*◌, ◌<◌, ◌≤◌, List, [], ◌∷◌, ◌++◌, length, get_or, map, take, drop, refl, ap, sym, ◌∙◌, arith, range_with_len, drop_all, drop_more, take_more, take-append-drop, map-append, map_more, length-map, length-take-le, take_all, half, times, layer, layer-push, times-append, with_layer, Plan, IsFlow, AllLoose, Builds, next_wire, with_balancer}
 use Rattle.cn_wiring.proofs.Builds.{Builds-none, Builds-like, Builds-beside, Builds-loose}
 
 -- the first i of xs and of ys have been joined pairwise

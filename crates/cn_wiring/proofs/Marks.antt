@@ -1,14 +1,6 @@
 -- A list of ends in which some loose wires come to end at a balancer.
-use Rattle.std.proofs.Common.{◌≡◌, ◌≢◌, ℕ, ◌+◌, ◌<◌, ◌≤◌, ◌⊎◌, inl, inr, List, [], ◌∷◌, ◌++◌, length, get_or, set, refl, ◌∙◌, arith, eqb, Option, Some, None, length-set, get_or-set_same, get_or-set_other, sum_by}
-use Rattle.std.specs.Option.{is_none}
-use Rattle.std.proofs.lemmas.Bool.{cases_Bool, cases_eq, cases_lt, eq-eqb}
-use Rattle.std.proofs.lemmas.Bool.Decides.{nat_tests}
+use Rattle.cn_wiring.proofs.Common.{◌≡◌, ◌≢◌, ℕ, ◌+◌, ◌<◌, ◌≤◌, ◌⊎◌, inl, inr, List, [], ◌∷◌, ◌++◌, length, get_or, set, refl, ◌∙◌, arith, eqb, Option, Some, None, length-set, get_or-set_same, get_or-set_other, sum_by, is_none, cases_Bool, cases_eq, cases_lt, eq-eqb, nat_tests, sum_by-cons, get_or_past, when, total_where, times, ends_at, total-where-set}
 use Rattle.std.proofs.lemmas.Grind.{common_steps}
-use Rattle.std.proofs.lemmas.List.Sums.{sum_by-cons}
-use Rattle.std.proofs.lemmas.List.{get_or_past}
-use Rattle.cn_spec.specs.Sums.{when, total_where, times}
-use Rattle.cn_tables.specs.Plan.{ends_at}
-use Rattle.cn_spec.proofs.CallerLemmas.{total-where-set}
 
 -- 1 where wire w of the list ends nowhere
 abbrev pub loose_in : List (Option ℕ) → ℕ → ℕ

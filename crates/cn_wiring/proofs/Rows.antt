@@ -1,13 +1,6 @@
 -- Rows of wires of a level.
-use Rattle.std.proofs.Common.{ℕ, ◌≤◌, List, length, map, ◌∙◌, arith, Result, Ok, Err}
-use Rattle.std.specs.List.{range_with_len}
+use Rattle.cn_wiring.proofs.Common.{ℕ, ◌≤◌, List, length, map, ◌∙◌, arith, Result, Ok, Err, range_with_len, length-map, length-range_with_len, pow_pos, IsRow, MOST_ENDS, MOST_LEVEL, IsWidthOf}
 use Rattle.std.specs.Result.{IfOk}
-use Rattle.std.proofs.lemmas.List.{length-map}
-use Rattle.std.proofs.lemmas.List.FromFn.{length-range_with_len}
-use Rattle.std.proofs.lemmas.Nat.{pow_pos}
-use Rattle.cn_spec.specs.Networks.{IsRow}
-use Rattle.cn_spec.specs.declared.limits.TheConstants.{MOST_ENDS, MOST_LEVEL}
-use Rattle.cn_tables.specs.Widths.{IsWidthOf}
 use Rattle.cn_wiring.proofs.WidthLemmas.{width-few}
 
 -- the entries of a width are a row of its level, and so are their flows

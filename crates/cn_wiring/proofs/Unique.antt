@@ -1,14 +1,5 @@
 -- A plan with its exits in order has one table.
-use Rattle.std.proofs.Common.{◌≡◌, ℕ, ◌<◌, List, length, get_or, map, refl, sym, ap, ◌∙◌, subst, arith, None, true}
-use Rattle.std.proofs.lemmas.Bool.{eq-eqb}
-use Rattle.std.proofs.lemmas.List.{ext_get_or, get_or-map, get_or_past, length-map}
-use Rattle.cn_spec.proofs.CallerLemmas.{total-where-parts}
-use Rattle.cn_tables.specs.declared.end.End.{End}
-use Rattle.cn_tables.specs.declared.end.End.TheVariants.{Balancer, Exit}
-use Rattle.cn_wiring.specs.Made.{IsTableOf}
-use Rattle.cn_tables.specs.Plan.{Plan}
-use Rattle.cn_tables.specs.Table.{Table, IsWellFormed, Stands, balancer_of, end_of, is_end, plan_of_table}
-use Rattle.cn_tables.proofs.CallerLemmas.{from-balancer}
+use Rattle.cn_wiring.proofs.Common.{◌≡◌, ℕ, ◌<◌, List, length, get_or, map, refl, sym, ap, ◌∙◌, subst, arith, None, true, eq-eqb, ext_get_or, get_or-map, get_or_past, length-map, total-where-parts, End, Balancer, Exit, IsTableOf, Plan, Table, IsWellFormed, Stands, balancer_of, end_of, is_end, plan_of_table, from-balancer}
 
 -- a wire that ends at an exit is one of the table
 ends-there : (t : Table) (u i : ℕ) → end_of t u ≡ Exit i → u < length t.ends

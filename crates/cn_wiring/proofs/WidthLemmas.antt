@@ -1,10 +1,7 @@
 -- Levels and widths.
-use Rattle.std.proofs.Common.{◌≡◌, ℕ, suc, ◌*◌, ◌^◌, ◌<◌, ◌≤◌, arith, lit≤}
-use Rattle.std.proofs.lemmas.Nat.{pow_below}
+use Rattle.cn_wiring.proofs.Common.{◌≡◌, ℕ, suc, ◌*◌, ◌^◌, ◌<◌, ◌≤◌, arith, lit≤, pow_below, MOST_ENDS, MOST_LEVEL, IsWidth}
 use Rattle.std.proofs.Math.Nat.{pow-succ'}
 use Rattle.std.proofs.Math.Pow.{pow_mono}
-use Rattle.cn_spec.specs.declared.limits.TheConstants.{MOST_ENDS, MOST_LEVEL}
-use Rattle.cn_tables.specs.Widths.{IsWidth}
 
 -- the level of a number that is a power of two, by the greatest power of two that is not above it
 pub level-is-log : (n log level : ℕ) → 2 ^ log ≤ n → n < 2 * 2 ^ log → n ≡ 2 ^ level → level ≡ log

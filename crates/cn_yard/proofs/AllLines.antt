@@ -1,13 +1,5 @@
 -- Records that move from line to line.
-use Rattle.std.proofs.Common.{◌≡◌, ◌≢◌, ℕ, ◌+◌, ◌<◌, ◌≤◌, Bool, false, cond, eqb, ltb, List, [], ◌∷◌, ◌++◌, length, get_or, ap, ◌∙◌, arith}
-use Rattle.cn_yard.proofs.Common.{Line, Record, but, count_of, marked, nat_tests, next_of, prev_of, times, wire_of}
-use Rattle.std.proofs.lemmas.List.{append-nil, get_or_append_left, length-append, length_push}
-use Rattle.cn_spec.specs.Sums.{sum_below, when}
-use Rattle.cn_spec.proofs.CallerLemmas.{sum-below-part, sum-below-pick, sum-below-same, times-append}
-use Rattle.cn_yard.specs.Chains.{last_of, put_last}
-use Rattle.cn_yard.specs.Lines.{IsOff, IsOn, Linked, OffLine}
-use Rattle.cn_yard.specs.Records.{no_record}
-use Rattle.cn_yard.specs.Moving.{HasMarks, IsAdded, IsLinks, IsMore, SameBut}
+use Rattle.cn_yard.proofs.Common.{◌≡◌, ◌≢◌, ℕ, ◌+◌, ◌<◌, ◌≤◌, Bool, false, cond, eqb, ltb, List, [], ◌∷◌, ◌++◌, length, get_or, ap, ◌∙◌, arith, Line, Record, but, count_of, marked, nat_tests, next_of, prev_of, times, wire_of, append-nil, get_or_append_left, length-append, length_push, sum_below, when, sum-below-part, sum-below-pick, sum-below-same, times-append, last_of, put_last, IsOff, IsOn, Linked, OffLine, no_record, HasMarks, IsAdded, IsLinks, IsMore, SameBut}
 use Rattle.cn_yard.proofs.Chains.{chain-same, length-but, times-but}
 use Rattle.cn_yard.proofs.Unlinked.{in-tail}
 use Rattle.cn_yard.proofs.Appended.{times-last}

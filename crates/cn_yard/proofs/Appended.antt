@@ -1,11 +1,5 @@
 -- A record is put last on a line.
-use Rattle.std.proofs.Common.{◌≡◌, ◌≢◌, ℕ, zero, suc, ◌+◌, ◌<◌, ◌≤◌, inl, inr, Bool, true, false, cond, eqb, List, [], ◌∷◌, ◌++◌, length, set, refl, sym, ap, ◌∙◌, arith, subst, ◌⊎◌}
-use Rattle.cn_yard.proofs.Common.{Line, Record, cases_eq, count_of, line_of, nat_tests, next_of, no_line, prev_of, times, times-nil, wire_of}
-use Rattle.std.proofs.lemmas.List.{append-nil, get_or-set_other, get_or-set_same, length-append, length-set}
-use Rattle.cn_spec.proofs.CallerLemmas.{times-cons, times-append}
-use Rattle.cn_yard.specs.Chains.{Chain, last_of, last_or, put_last}
-use Rattle.cn_yard.specs.Lines.{Ends, IsOn, Linked, OffLine, line_with}
-use Rattle.cn_yard.specs.Records.{IsLink, IsPut}
+use Rattle.cn_yard.proofs.Common.{◌≡◌, ◌≢◌, ℕ, zero, suc, ◌+◌, ◌<◌, ◌≤◌, inl, inr, Bool, true, false, cond, eqb, List, [], ◌∷◌, ◌++◌, length, set, refl, sym, ap, ◌∙◌, arith, subst, ◌⊎◌, Line, Record, cases_eq, count_of, line_of, nat_tests, next_of, no_line, prev_of, times, times-nil, wire_of, append-nil, get_or-set_other, get_or-set_same, length-append, length-set, times-cons, times-append, Chain, last_of, last_or, put_last, Ends, IsOn, Linked, OffLine, line_with, IsLink, IsPut}
 use Rattle.cn_yard.proofs.Chains.{chain-one, chain-push, chain-same, last-in, last-push}
 use Rattle.cn_yard.proofs.Unlinked.{in-tail, once-at, one-line}
 

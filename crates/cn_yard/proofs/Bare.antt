@@ -1,14 +1,5 @@
 -- A yard without lines: nobody stands there, and no record is free.
-use Rattle.std.proofs.Common.{◌≡◌, ◌⊎◌, inl, inr, ℕ, ◌<◌, ◌≤◌, List, [], length, refl, sym, ap, ◌∙◌, arith, None}
-use Rattle.cn_yard.proofs.Common.{Inside, Keeps, Line, Lists, Yard, cases_lt, client_of, count_by, count_of, lists_of, on, standing, times_in, tokens_in, yard_of}
-use Rattle.std.specs.Prelude.{IsSome, nat_eq, replicate}
-use Rattle.std.specs.List.{range_with_len}
-use Rattle.std.proofs.lemmas.List.{ext_get_or, get_or_past, get_or-replicate, length-map, length-replicate}
-use Rattle.std.proofs.lemmas.List.FromFn.{get_or-map-range_with_len, length-range_with_len}
-use Rattle.cn_spec.proofs.CallerLemmas.{sum-below-zero}
-use Rattle.cn_yard.specs.Lists.{empty}
-use Rattle.cn_yard.specs.Chains.{walk}
-use Rattle.cn_yard.specs.InsideYard.{IsBare, IsYard, walked, with_clients}
+use Rattle.cn_yard.proofs.Common.{◌≡◌, ◌⊎◌, inl, inr, ℕ, ◌<◌, ◌≤◌, List, [], length, refl, sym, ap, ◌∙◌, arith, None, Inside, Keeps, Line, Lists, Yard, cases_lt, client_of, count_by, count_of, lists_of, on, standing, times_in, tokens_in, yard_of, IsSome, nat_eq, replicate, range_with_len, ext_get_or, get_or_past, get_or-replicate, length-map, length-replicate, get_or-map-range_with_len, length-range_with_len, sum-below-zero, empty, walk, IsBare, IsYard, walked, with_clients}
 use Rattle.cn_yard.proofs.Standings.{standing-none}
 
 -- what the type keeps, opened and closed

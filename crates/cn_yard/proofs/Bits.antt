@@ -1,12 +1,7 @@
 -- Marks, 64 to a word.
-use Rattle.std.proofs.Common.{◌≡◌, ℕ, zero, suc, ◌+◌, ◌*◌, ◌/◌, ◌%◌, ◌^◌, ◌-◌, ◌<◌, ◌≤◌, inl, inr, not, nat_eq, List, [], ◌∷◌, drop, get_or, refl, sym, ap, ◌∙◌, arith, Some, None, w64}
-use Rattle.std.specs.Prelude.{position}
-use Rattle.std.specs.Int.{bit_at, trailing_zeros}
-use Rattle.cn_yard.proofs.Common.{cases_lt, marked, nat_tests}
-use Rattle.std.proofs.lemmas.List.{get_or-drop}
+use Rattle.cn_yard.proofs.Common.{◌≡◌, ℕ, zero, suc, ◌+◌, ◌*◌, ◌/◌, ◌%◌, ◌^◌, ◌-◌, ◌<◌, ◌≤◌, inl, inr, not, nat_eq, List, [], ◌∷◌, drop, get_or, refl, sym, ap, ◌∙◌, arith, Some, None, w64, position, bit_at, trailing_zeros, cases_lt, marked, nat_tests, get_or-drop, bit_at-trailing_zeros, bit_at-zero}
 use Rattle.std.proofs.lemmas.List.Quantifiers.{position-Some}
 use Rattle.std.proofs.lemmas.Nat.{div-mul-add, mod-mul-add}
-use Rattle.std.proofs.lemmas.Nat.Bits.{bit_at-trailing_zeros, bit_at-zero}
 
 -- a word that is 0 has no mark
 no-word : (words : List ℕ) (n : ℕ) → get_or words (n / 64) 0 ≡ 0 → marked words n ≡ 0

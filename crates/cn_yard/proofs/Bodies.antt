@@ -1,14 +1,5 @@
 -- A yard before and after each change of its records.
-use Rattle.std.proofs.Common.{◌≡◌, ℕ, ◌+◌, ◌-◌, ◌<◌, ◌≤◌, max, List, length, get_or, refl, sym, ap, ◌∙◌, arith, subst, Some}
-use Rattle.std.proofs.Common.{vec_len, Vec, Global}
-use Rattle.std.specs.Prelude.{IsSome}
-use Rattle.std.specs.Vec.{with_items}
-use Rattle.std.proofs.lemmas.List.{get_or_read, with_items_is}
-use Rattle.cn_yard.proofs.Common.{Inside, Keeps, Line, Record, Yard, client_of, count_of, line_of, lists_of, moved, nat_tests, no_line, standing, tokens_in, wire_of, yard_of}
-use Rattle.cn_spec.specs.declared.limits.TheConstants.{MOST_TOKENS}
-use Rattle.cn_yard.specs.Lists.{Admits, Moves, Releases}
-use Rattle.cn_yard.specs.Records.{IsClient}
-use Rattle.cn_yard.specs.Moving.{Fills, IsLined, IsMore, IsMove, SameBut}
+use Rattle.cn_yard.proofs.Common.{◌≡◌, ℕ, ◌+◌, ◌-◌, ◌<◌, ◌≤◌, max, List, length, get_or, refl, sym, ap, ◌∙◌, arith, subst, Some, vec_len, Vec, Global, IsSome, with_items, get_or_read, with_items_is, Inside, Keeps, Line, Record, Yard, client_of, count_of, line_of, lists_of, moved, nat_tests, no_line, standing, tokens_in, wire_of, yard_of, MOST_TOKENS, Admits, Moves, Releases, IsClient, Fills, IsLined, IsMore, IsMove, SameBut}
 use Rattle.cn_yard.proofs.Changes.{admits-of, links-client, lists-same, moves-of, releases-of}
 use Rattle.cn_yard.proofs.Appended.{last-below, last-there}
 use Rattle.cn_yard.proofs.Wires.{live, standing-live, tokens-are}

@@ -1,8 +1,5 @@
 -- Lists of numbers that are linked one to the next.
-use Rattle.std.proofs.Common.{◌≡◌, ◌≢◌, ℕ, ◌+◌, ◌≤◌, inl, inr, cond, eqb, List, [], ◌∷◌, ◌++◌, length, refl, sym, ap, ◌∙◌, arith, subst}
-use Rattle.cn_yard.proofs.Common.{but, cases_eq, nat_tests, times, times-nil}
-use Rattle.cn_spec.proofs.CallerLemmas.{times-cons}
-use Rattle.cn_yard.specs.Chains.{Chain, head_or, last_or, walk}
+use Rattle.cn_yard.proofs.Common.{◌≡◌, ◌≢◌, ℕ, ◌+◌, ◌≤◌, inl, inr, cond, eqb, List, [], ◌∷◌, ◌++◌, length, refl, sym, ap, ◌∙◌, arith, subst, but, cases_eq, nat_tests, times, times-nil, times-cons, Chain, head_or, last_or, walk}
 
 -- all numbers but the first
 abbrev pub tail_of : List ℕ → List ℕ

@@ -1,12 +1,5 @@
 -- What callers see when a token comes, moves or goes.
-use Rattle.std.proofs.Common.{max, ◌≡◌, ◌≢◌, ℕ, ◌+◌, ◌-◌, ◌<◌, inl, inr, true, false, eqb, List, [], ◌++◌, length, get_or, refl, sym, ap, ◌∙◌, arith, subst, None}
-use Rattle.cn_yard.proofs.Common.{Inside, Keeps, Line, Lists, Record, Yard, cases_eq, cases_lt, client_of, count_of, last_on, lists_of, moved, nat_tests, next_of, on, prev_of, standing, times, tokens_in, wire_of, without, yard_of}
-use Rattle.std.proofs.lemmas.List.{append-nil, ext_get_or}
-use Rattle.cn_spec.specs.Sums.{sum_below}
-use Rattle.cn_yard.specs.Lists.{Admits, Moves, Releases}
-use Rattle.cn_yard.specs.Records.{IsClient}
-use Rattle.cn_yard.specs.Moving.{IsLinks, SameBut}
-use Rattle.cn_yard.specs.InsideYard.{with_clients}
+use Rattle.cn_yard.proofs.Common.{max, ◌≡◌, ◌≢◌, ℕ, ◌+◌, ◌-◌, ◌<◌, inl, inr, true, false, eqb, List, [], ◌++◌, length, get_or, refl, sym, ap, ◌∙◌, arith, subst, None, Inside, Keeps, Line, Lists, Record, Yard, cases_eq, cases_lt, client_of, count_of, last_on, lists_of, moved, nat_tests, next_of, on, prev_of, standing, times, tokens_in, wire_of, without, yard_of, append-nil, ext_get_or, sum_below, Admits, Moves, Releases, IsClient, IsLinks, SameBut, with_clients}
 use Rattle.cn_yard.proofs.Chains.{but-out, chain-same}
 use Rattle.cn_yard.proofs.Keyed.{lookup-added, lookup-gone, lookup-last, lookup-without}
 use Rattle.cn_yard.proofs.Standings.{lookup-absent, standing-added, standing-same}

@@ -1,12 +1,6 @@
 -- Lists of keys with values, as of tokens with their clients: look-ups, counts and sums where an entry is added or taken
 -- out, and where one key's value changes.
-use Rattle.std.proofs.Common.{◌≡◌, ◌≢◌, ℕ, ◌+◌, ◌≤◌, ◌&&◌, Bool, cond, nat_eq, eqb, List, [], ◌∷◌, ◌++◌, refl, arith, Some, None}
-use Rattle.cn_yard.proofs.Common.{count_by, last_on, lookup, nat_tests, without}
-use Rattle.std.specs.Map.{set_value, values_of}
-use Rattle.cn_spec.specs.Sums.{when}
-use Rattle.std.proofs.lemmas.Bool.{cases_Bool}
-use Rattle.std.specs.List.{sum_by}
-use Rattle.std.proofs.lemmas.List.Sums.{sum_by-cons}
+use Rattle.cn_yard.proofs.Common.{◌≡◌, ◌≢◌, ℕ, ◌+◌, ◌≤◌, ◌&&◌, Bool, cond, nat_eq, eqb, List, [], ◌∷◌, ◌++◌, refl, arith, Some, None, count_by, last_on, lookup, nat_tests, without, set_value, values_of, when, cases_Bool, sum_by, sum_by-cons}
 use Rattle.std.proofs.lemmas.Map.Entries.{sum_by-set_value}
 
 -- a look-up after a new key

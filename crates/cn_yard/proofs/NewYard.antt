@@ -1,17 +1,6 @@
 -- A yard whose lines are made: its lists are empty, and so are its lines.
-use Rattle.std.proofs.Common.{◌≡◌, inl, inr, ℕ, ◌+◌, ◌^◌, ◌<◌, List, [], length, refl, sym, ap, ◌∙◌, arith}
-use Rattle.std.proofs.Common.{◌/◌, ◌%◌}
-use Rattle.std.specs.Prelude.{replicate}
-use Rattle.std.specs.Int.{bit_at}
-use Rattle.std.proofs.lemmas.List.{get_or-replicate, length-replicate}
-use Rattle.std.proofs.lemmas.Nat.Bits.{bit_at-zero}
-use Rattle.cn_yard.proofs.Common.{Inside, Keeps, Line, count_of, line_of, marked, next_of, no_line, prev_of, times-nil, yard_of}
-use Rattle.cn_spec.proofs.CallerLemmas.{sum-below-zero}
-use Rattle.cn_yard.specs.Lists.{empty}
+use Rattle.cn_yard.proofs.Common.{◌≡◌, inl, inr, ℕ, ◌+◌, ◌^◌, ◌<◌, List, [], length, refl, sym, ap, ◌∙◌, arith, ◌/◌, ◌%◌, replicate, bit_at, get_or-replicate, length-replicate, bit_at-zero, Inside, Keeps, Line, count_of, line_of, marked, next_of, no_line, prev_of, times-nil, yard_of, sum-below-zero, empty, last_or, Ends, IsYard}
 use Rattle.cn_yard.proofs.Chains.{chain-nil}
-use Rattle.cn_yard.specs.Chains.{last_or}
-use Rattle.cn_yard.specs.Lines.{Ends}
-use Rattle.cn_yard.specs.InsideYard.{IsYard}
 use Rattle.cn_yard.proofs.Bare.{bare-empty, closed, closed-bare, empty-of, opened}
 use Rattle.cn_yard.proofs.Wires.{on-wire}
 

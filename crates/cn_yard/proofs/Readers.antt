@@ -1,14 +1,5 @@
 -- What a yard's readers return.
-use Rattle.std.proofs.Common.{◌≡◌, ℕ, ◌+◌, ◌*◌, ◌<◌, ◌≤◌, inl, inr, true, false, cond, eqb, ltb, List, [], ◌∷◌, length, get_or, refl, sym, ap, ◌∙◌, arith, subst, Option, Some, None}
-use Rattle.std.specs.Prelude.{IsSome, IsTrue, ◌↔◌}
-use Rattle.cn_yard.proofs.Common.{Inside, Keeps, Line, Record, cases_lt, client_of, count_of, line_of, lists_of, marked, nat_tests, next_of, no_line, on, prev_of, standing, times, tokens_in, wire_of}
-use Rattle.std.proofs.lemmas.List.{get_or_read, nil_from_length}
-use Rattle.cn_spec.specs.declared.limits.TheConstants.{MOST_TOKENS}
-use Rattle.cn_yard.specs.Lists.{IsLowest, IsThere, next_after, first_of}
-use Rattle.cn_yard.specs.Chains.{last_or}
-use Rattle.cn_yard.specs.Lines.{Ends}
-use Rattle.cn_yard.specs.Records.{no_record}
-use Rattle.cn_yard.specs.InsideYard.{IsYard, with_clients}
+use Rattle.cn_yard.proofs.Common.{◌≡◌, ℕ, ◌+◌, ◌*◌, ◌<◌, ◌≤◌, inl, inr, true, false, cond, eqb, ltb, List, [], ◌∷◌, length, get_or, refl, sym, ap, ◌∙◌, arith, subst, Option, Some, None, IsSome, IsTrue, ◌↔◌, Inside, Keeps, Line, Record, cases_lt, client_of, count_of, line_of, lists_of, marked, nat_tests, next_of, no_line, on, prev_of, standing, times, tokens_in, wire_of, get_or_read, nil_from_length, MOST_TOKENS, IsLowest, IsThere, next_after, first_of, last_or, Ends, no_record, IsYard, with_clients}
 use Rattle.cn_yard.proofs.Bare.{bare-count, bare-on, bare-records, bare-tokens, on-beyond, opened}
 use Rattle.cn_yard.proofs.Wires.{after-clients, length-on, live, on-wire, standing-live, there-live, tokens-are}
 use Rattle.cn_yard.proofs.There.{first}

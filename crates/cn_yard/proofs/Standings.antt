@@ -1,7 +1,5 @@
 -- Where the tokens of a yard stand.
-use Rattle.std.proofs.Common.{◌≡◌, ◌≢◌, ℕ, zero, suc, ◌<◌, inl, inr, nat_eq, length, refl, arith, Option, Some, None, true, false, cond, eqb}
-use Rattle.cn_yard.proofs.Common.{Lists, cases_eq, lookup, nat_tests, on, standing}
-use Rattle.cn_yard.specs.Lists.{here_or, standing_below}
+use Rattle.cn_yard.proofs.Common.{◌≡◌, ◌≢◌, ℕ, zero, suc, ◌<◌, inl, inr, nat_eq, length, refl, arith, Option, Some, None, true, false, cond, eqb, Lists, cases_eq, lookup, nat_tests, on, standing, here_or, standing_below}
 
 -- ---- of any yard: a token that is on only one wire, or on none, and yards that agree
 

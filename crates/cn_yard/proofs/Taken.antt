@@ -1,13 +1,5 @@
 -- The first token of a wire, taken off it.
-use Rattle.std.proofs.Common.{◌≡◌, ◌≢◌, ℕ, ◌+◌, ◌<◌, ◌≤◌, inl, inr, eqb, cond, Bool, true, false, List, [], ◌∷◌, ◌++◌, length, refl, sym, ap, ◌∙◌, arith, Option, Some, None}
-use Rattle.cn_yard.proofs.Common.{Lists, Yard, cases_lt, count_by, last_on, lookup, nat_tests, on, times_in, without}
-use Rattle.std.specs.Prelude.{nat_eq, sum_by}
-use Rattle.std.proofs.lemmas.Bool.{eq-eqb}
-use Rattle.std.proofs.lemmas.List.{get_or_past}
-use Rattle.std.proofs.lemmas.List.Sums.{sum_by-append, sum_by-cons}
-use Rattle.cn_spec.specs.Sums.{sum_below, when}
-use Rattle.cn_spec.proofs.CallerLemmas.{sum-below-one, sum-below-part, sum-below-parts, sum-below-shift, sum-below-zero}
-use Rattle.cn_yard.specs.Lists.{IsThere, first_of}
+use Rattle.cn_yard.proofs.Common.{◌≡◌, ◌≢◌, ℕ, ◌+◌, ◌<◌, ◌≤◌, inl, inr, eqb, cond, Bool, true, false, List, [], ◌∷◌, ◌++◌, length, refl, sym, ap, ◌∙◌, arith, Option, Some, None, Lists, Yard, cases_lt, count_by, last_on, lookup, nat_tests, on, times_in, without, nat_eq, sum_by, eq-eqb, get_or_past, sum_by-append, sum_by-cons, sum_below, when, sum-below-one, sum-below-part, sum-below-parts, sum-below-shift, sum-below-zero, IsThere, first_of}
 use Rattle.cn_yard.proofs.Keyed.{found-once, last_on-sum}
 use Rattle.cn_yard.proofs.Standings.{standing-only}
 use Rattle.cn_yard.proofs.There.{there}

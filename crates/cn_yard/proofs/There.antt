@@ -1,11 +1,5 @@
 -- Where a token stands: on only one wire, once.
-use Rattle.std.proofs.Common.{◌≡◌, ◌≢◌, ℕ, zero, suc, ◌<◌, ◌≤◌, inl, inr, eqb, List, [], length, refl, sym, ap, ◌∙◌, arith, Option, Some, None}
-use Rattle.cn_yard.proofs.Common.{Lists, cases_eq, cases_lt, count_by, lookup, nat_tests, on, standing, times_in, tokens_in, without}
-use Rattle.std.proofs.lemmas.Bool.{ne_eqb, eq-eqb}
-use Rattle.std.specs.List.{sum_by}
-use Rattle.std.proofs.lemmas.List.{get_or_past}
-use Rattle.cn_spec.proofs.CallerLemmas.{sum-below-part, sum-below-parts}
-use Rattle.cn_yard.specs.Lists.{IsThere, here_or, standing_below}
+use Rattle.cn_yard.proofs.Common.{◌≡◌, ◌≢◌, ℕ, zero, suc, ◌<◌, ◌≤◌, inl, inr, eqb, List, [], length, refl, sym, ap, ◌∙◌, arith, Option, Some, None, Lists, cases_eq, cases_lt, count_by, lookup, nat_tests, on, standing, times_in, tokens_in, without, ne_eqb, eq-eqb, sum_by, get_or_past, sum-below-part, sum-below-parts, IsThere, here_or, standing_below}
 use Rattle.cn_yard.proofs.Keyed.{found-once, without-none, without-one}
 
 pub first : {a b : ℕ × ℕ} → Some a ≡ Some b → a.0 ≡ b.0

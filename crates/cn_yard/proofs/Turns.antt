@@ -1,11 +1,5 @@
 -- The tokens of a wire, dealt to two others one after the other.
-use Rattle.std.proofs.Common.{◌≡◌, ◌≢◌, ℕ, zero, suc, ◌+◌, ◌-◌, ◌%◌, ◌<◌, ◌≤◌, cond, Bool, true, false, List, [], ◌∷◌, ◌++◌, length, refl, sym, ap, ◌∙◌, subst, arith, Some, add-zero, append-nil}
-use Rattle.std.specs.Prelude.{◌==◌}
-use Rattle.cn_yard.proofs.Common.{Yard, last_on, nat_tests, on, standing, times_in, tokens_in}
-use Rattle.std.proofs.lemmas.Bool.{eq-eqb, ne_eqb}
-use Rattle.std.proofs.lemmas.List.{append_assoc, length_push}
-use Rattle.cn_yard.specs.Deals.{Deals, IsDealt, every_second, out_of}
-use Rattle.cn_yard.specs.Lists.{Moves}
+use Rattle.cn_yard.proofs.Common.{◌≡◌, ◌≢◌, ℕ, zero, suc, ◌+◌, ◌-◌, ◌%◌, ◌<◌, ◌≤◌, cond, Bool, true, false, List, [], ◌∷◌, ◌++◌, length, refl, sym, ap, ◌∙◌, subst, arith, Some, add-zero, append-nil, ◌==◌, Yard, last_on, nat_tests, on, standing, times_in, tokens_in, eq-eqb, ne_eqb, append_assoc, length_push, Deals, IsDealt, every_second, out_of, Moves}
 use Rattle.cn_yard.proofs.Taken.{IsFirst, first-there, once-moved, others-on, rest-on}
 
 -- ---- one after the other

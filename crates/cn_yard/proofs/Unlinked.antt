@@ -1,12 +1,5 @@
 -- A record is taken off its line.
-use Rattle.std.proofs.Common.{◌≡◌, ◌≢◌, ℕ, ◌-◌, ◌<◌, ◌≤◌, inl, inr, true, false, cond, eqb, List, [], ◌∷◌, length, set, refl, sym, ap, ◌∙◌, arith, subst, ◌||◌}
-use Rattle.cn_yard.proofs.Common.{Line, Record, but, cases_eq, count_of, line_of, nat_tests, next_of, no_line, prev_of, times, times-nil, wire_of}
-use Rattle.std.proofs.lemmas.Bool.{cases_Bool}
-use Rattle.std.proofs.lemmas.List.{get_or-set_other, get_or-set_same, length-set}
-use Rattle.cn_yard.specs.Chains.{Chain, head_or, last_or}
-use Rattle.cn_yard.specs.Lines.{Ends, IsOff, Linked, line_without}
-use Rattle.cn_yard.specs.Records.{IsLink}
-use Rattle.cn_spec.proofs.CallerLemmas.{times-cons}
+use Rattle.cn_yard.proofs.Common.{◌≡◌, ◌≢◌, ℕ, ◌-◌, ◌<◌, ◌≤◌, inl, inr, true, false, cond, eqb, List, [], ◌∷◌, length, set, refl, sym, ap, ◌∙◌, arith, subst, ◌||◌, Line, Record, but, cases_eq, count_of, line_of, nat_tests, next_of, no_line, prev_of, times, times-nil, wire_of, cases_Bool, get_or-set_other, get_or-set_same, length-set, Chain, head_or, last_or, Ends, IsOff, Linked, line_without, IsLink, times-cons}
 use Rattle.cn_yard.proofs.Chains.{but-cons, but-head, but-out, chain-but, chain-but-last, chain-rest, chain-same, chain-tied, last-but, last-in, last-left, length-but, next-in, prev-in, tail_of, times-but}
 
 -- ---- what is left of one line, with its links n and p

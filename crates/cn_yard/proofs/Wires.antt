@@ -1,16 +1,6 @@
 -- What stands on the wires of a yard.
-use Rattle.std.proofs.Common.{◌≡◌, ◌≢◌, ℕ, zero, suc, ◌+◌, ◌<◌, ◌≤◌, inl, inr, cond, nat_eq, eqb, ltb, List, [], ◌∷◌, ◌++◌, length, refl, sym, ap, ◌∙◌, arith, Some, None}
-use Rattle.cn_yard.proofs.Common.{Inside, Keeps, but, cases_lt, client_of, count_by, count_of, last_on, line_of, lists_of, lookup, moved, nat_tests, next_of, on, prev_of, standing, times, times-nil, times_in, tokens_in, wire_of, without}
-use Rattle.std.specs.Prelude.{IsSome}
-use Rattle.std.proofs.lemmas.List.{length-map, map-append}
-use Rattle.std.proofs.lemmas.List.Sums.{sum_by-cons}
-use Rattle.std.proofs.lemmas.List.FromFn.{get_or-map-range_with_len}
-use Rattle.cn_spec.specs.Sums.{sum_below}
-use Rattle.cn_spec.proofs.CallerLemmas.{times-cons, sum-below-next, sum-below-same}
+use Rattle.cn_yard.proofs.Common.{◌≡◌, ◌≢◌, ℕ, zero, suc, ◌+◌, ◌<◌, ◌≤◌, inl, inr, cond, nat_eq, eqb, ltb, List, [], ◌∷◌, ◌++◌, length, refl, sym, ap, ◌∙◌, arith, Some, None, Inside, Keeps, but, cases_lt, client_of, count_by, count_of, last_on, line_of, lists_of, lookup, moved, nat_tests, next_of, on, prev_of, standing, times, times-nil, times_in, tokens_in, wire_of, without, IsSome, length-map, map-append, sum_by-cons, get_or-map-range_with_len, sum_below, times-cons, sum-below-next, sum-below-same, IsThere, next_after, Chain, last_of, last_or, walked, with_clients}
 use Rattle.cn_yard.proofs.There.{there}
-use Rattle.cn_yard.specs.Lists.{IsThere, next_after}
-use Rattle.cn_yard.specs.Chains.{Chain, last_of, last_or}
-use Rattle.cn_yard.specs.InsideYard.{walked, with_clients}
 use Rattle.cn_yard.proofs.Bare.{on-beyond, wires-are}
 use Rattle.cn_yard.proofs.Chains.{chain-rest, chain-tied, last-in, times-but, walk-chain}
 use Rattle.cn_yard.proofs.Standings.{standing-none, standing-only}

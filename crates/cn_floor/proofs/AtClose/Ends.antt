@@ -1,14 +1,5 @@
 -- Where nobody is inside, the names of a floor are tight, and its words can be carried.
-use Rattle.std.proofs.Common.{◌≡◌, ◌≢◌, ℕ, ◌+◌, ◌<◌, ◌≤◌, ◌&&◌, inl, inr, Bool, true, false, eqb, ltb, List, [], length, get_or, sym, refl, ap, arith}
-use Rattle.cn_floor.proofs.Common.{Balancer, End, Exit, HoldsAt, IsClosed, IsSound, IsStart, Ledger, Stands, Start, State, Table, View, WordsValue, cases_lt, count_in, eq-eqb, le-ltb, ledger_of, lt-ltb, name_of, ne_eqb, sum-below-zero, when, word_count}
-use Rattle.std.proofs.lemmas.Bool.{eqb-true, ltb-true}
-use Rattle.cn_tables.specs.Table.{is_end, sum_at}
-use Rattle.cn_ledger.specs.Ledger.{IsTight, put}
-use Rattle.cn_floor.specs.Carried.{AreTight}
-use Rattle.cn_floor.specs.Ends.{NobodyInside}
-use Rattle.cn_floor.specs.Rule.{IsCarried}
-use Rattle.cn_spec.proofs.CallerLemmas.{once-in, total-where-agree}
-use Rattle.cn_ledger.proofs.CallerLemmas.{tight}
+use Rattle.cn_floor.proofs.Common.{◌≡◌, ◌≢◌, ℕ, ◌+◌, ◌<◌, ◌≤◌, ◌&&◌, inl, inr, Bool, true, false, eqb, ltb, List, [], length, get_or, sym, refl, ap, arith, Balancer, End, Exit, HoldsAt, IsClosed, IsSound, IsStart, Ledger, Stands, Start, State, Table, View, WordsValue, cases_lt, count_in, eq-eqb, le-ltb, ledger_of, lt-ltb, name_of, ne_eqb, sum-below-zero, when, word_count, eqb-true, ltb-true, is_end, sum_at, IsTight, put, AreTight, NobodyInside, IsCarried, once-in, total-where-agree, tight}
 
 -- ---- the ledger of words without lanes
 

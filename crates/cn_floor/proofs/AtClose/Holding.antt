@@ -1,14 +1,6 @@
 -- The clients of a closed floor, put down at their names.
-use Rattle.std.proofs.Common.{◌≡◌, ◌≢◌, ℕ, zero, suc, ◌+◌, ◌<◌, ◌≤◌, inl, inr, cond, List, [], ◌∷◌, length, get_or, set, map, sym, refl, ap, ◌∙◌, subst, arith, length-set}
-use Rattle.std.specs.Prelude.{IsPermutation}
-use Rattle.std.specs.List.{range_with_len}
-use Rattle.cn_floor.proofs.Common.{Grant, cases_eq, cases_lt, le-ltb, once_below, times}
-use Rattle.std.proofs.lemmas.List.{get_or-map, get_or-set_other, get_or-set_same, length-map}
-use Rattle.std.proofs.lemmas.List.FromFn.{fill_by_all}
+use Rattle.cn_floor.proofs.Common.{◌≡◌, ◌≢◌, ℕ, zero, suc, ◌+◌, ◌<◌, ◌≤◌, inl, inr, cond, List, [], ◌∷◌, length, get_or, set, map, sym, refl, ap, ◌∙◌, subst, arith, length-set, IsPermutation, range_with_len, Grant, cases_eq, cases_lt, le-ltb, once_below, times, get_or-map, get_or-set_other, get_or-set_same, length-map, fill_by_all, IsEachBelow, at_most_once, once_each, times-member, times-two, ListsHolders}
 use Rattle.std.proofs.lemmas.List.Sorted.{IsPermutation-map, IsPermutation-sym}
-use Rattle.cn_spec.specs.Step.{IsEachBelow}
-use Rattle.cn_spec.proofs.CallerLemmas.{at_most_once, once_each, times-member, times-two}
-use Rattle.cn_floor.specs.Ends.{ListsHolders}
 
 module _ (grants : List Grant) (names : IsEachBelow (length grants) (map (λ (g : Grant). g.name) grants)) where
   abbrev all : List ℕ

@@ -1,14 +1,5 @@
 -- What has risen since a floor began.
-use Rattle.std.proofs.Common.{◌≡◌, ℕ, zero, suc, ◌+◌, ◌<◌, ◌≤◌, ◌++◌, ◌∷◌, [], List, length, get_or, map, take, drop, replicate, sym, refl, ◌∙◌, arith, subst}
-use Rattle.std.specs.List.{range_with_len}
-use Rattle.std.proofs.lemmas.List.{get_or-drop, length-drop, take_more}
-use Rattle.std.proofs.lemmas.List.FromFn.{map-range_with_len_more}
-use Rattle.cn_floor.proofs.Common.{Balancer, Exit, IsClosed, Lists, Start, Table, WordsValue, ledger_of, on, tokens_in}
-use Rattle.cn_yard.proofs.CallerLemmas.{nobody-on}
-use Rattle.cn_ledger.proofs.CallerLemmas.{counts-few}
-use Rattle.cn_floor.specs.Carried.{client_count}
-use Rattle.cn_floor.specs.Ends.{HasRisen, counts_by_exit, passes_of}
-use Rattle.cn_floor.specs.Words.{NoneWent}
+use Rattle.cn_floor.proofs.Common.{◌≡◌, ℕ, zero, suc, ◌+◌, ◌<◌, ◌≤◌, ◌++◌, ◌∷◌, [], List, length, get_or, map, take, drop, replicate, sym, refl, ◌∙◌, arith, subst, range_with_len, get_or-drop, length-drop, take_more, map-range_with_len_more, Balancer, Exit, IsClosed, Lists, Start, Table, WordsValue, ledger_of, on, tokens_in, nobody-on, counts-few, client_count, HasRisen, counts_by_exit, passes_of, NoneWent}
 
 -- a part of a list, place by place
 part : (xs : List ℕ) (f : ℕ → ℕ) (a n : ℕ) → a + n ≤ length xs → ((i : ℕ) → i < n → get_or xs (a + i) 0 ≡ f i)

@@ -1,11 +1,6 @@
 -- What the table of a floor has at the end, where its words lie a stride apart.
-use Rattle.std.proofs.Common.{◌≡◌, ℕ, List, sym, ap, ◌∙◌, subst}
-use Rattle.atomic_table.specs.Table.{Final, Seen}
+use Rattle.cn_floor.proofs.Common.{◌≡◌, ℕ, List, sym, ap, ◌∙◌, subst, Final, Seen, View, spread, start_of, IsEnding, IsCounters, picked}
 use Rattle.cn_floor.specs.declared.floor.counters.Counters.TheInside.{Inside}
-use Rattle.cn_floor.proofs.Common.{View, spread, start_of}
-use Rattle.cn_floor.specs.Closing.{IsEnding}
-use Rattle.cn_floor.specs.InsideCounters.{IsCounters}
-use Rattle.cn_floor.specs.Spread.{picked}
 use Rattle.cn_floor.proofs.AtClose.Closings.{ending-at}
 use Rattle.cn_floor.proofs.InStates.Placed.{Rule}
 use Rattle.cn_floor.proofs.InStates.Spreads.{picked-spread}

@@ -1,10 +1,5 @@
 -- The only token of a view, on its way.
-use Rattle.std.proofs.Common.{◌≡◌, ◌≢◌, ℕ, ◌%◌, ◌<◌, ◌≤◌, inl, inr, cond, eqb, true, false, Bool, List, [], ◌∷◌, ◌++◌, length, sum_by, refl, sym, ap, ◌∙◌, subst, arith}
-use Rattle.std.specs.Prelude.{nat_eq}
-use Rattle.cn_floor.proofs.Common.{Balancer, IsAlone, IsLetBy, IsThere, IsWellFormed, Lists, Stands, Start, Table, View, after_step, cases_eq, end_of, eq-eqb, last_on, length-map-range_with_len, ne_eqb, on, output_wire, sum-below-one, sum-below-same, times_in, when, without}
-use Rattle.std.proofs.lemmas.Nat.{mod_below}
-use Rattle.cn_yard.proofs.CallerLemmas.{first-there, last_on-sum}
-use Rattle.cn_floor.specs.Alone.{OnlyPassed, PassesOn}
+use Rattle.cn_floor.proofs.Common.{◌≡◌, ◌≢◌, ℕ, ◌%◌, ◌<◌, ◌≤◌, inl, inr, cond, eqb, true, false, Bool, List, [], ◌∷◌, ◌++◌, length, sum_by, refl, sym, ap, ◌∙◌, subst, arith, nat_eq, Balancer, IsAlone, IsLetBy, IsThere, IsWellFormed, Lists, Stands, Start, Table, View, after_step, cases_eq, end_of, eq-eqb, last_on, length-map-range_with_len, ne_eqb, on, output_wire, sum-below-one, sum-below-same, times_in, when, without, mod_below, first-there, last_on-sum, OnlyPassed, PassesOn}
 use Rattle.cn_floor.proofs.InStates.Sweeps.{lists-after-on}
 
 -- on its wire stands only the token

@@ -1,12 +1,5 @@
 -- How many atomic steps a walk takes.
-use Rattle.std.proofs.Common.{◌≡◌, ℕ, ◌+◌, ◌%◌, ◌<◌, List, [], ◌∷◌, length, ap, subst, arith}
-use Rattle.std.proofs.lemmas.Nat.{mod_below}
-use Rattle.cn_floor.proofs.Common.{Balancer, IsWellFormed, Stands, Start, Table, View, after_step, output_wire}
-use Rattle.cn_tables.specs.Levels.{IsLevel}
-use Rattle.cn_tables.specs.Network.{IsNetwork}
-use Rattle.cn_tables.proofs.CallerLemmas.{levels}
-use Rattle.cn_floor.specs.Alone.{PassesOn}
-use Rattle.cn_floor.specs.Named.{WalksThrough}
+use Rattle.cn_floor.proofs.Common.{◌≡◌, ℕ, ◌+◌, ◌%◌, ◌<◌, List, [], ◌∷◌, length, ap, subst, arith, mod_below, Balancer, IsWellFormed, Stands, Start, Table, View, after_step, output_wire, IsLevel, IsNetwork, levels, PassesOn, WalksThrough}
 
 module _ (start : Start) (formed : IsWellFormed start.network.table) (level : ℕ → ℕ)
     (is : IsLevel start.network.table start.network.depth level) where

@@ -1,9 +1,5 @@
 -- How deep wires lie: a walk from an entry comes to an exit by as many balancers as the network is deep.
-use Rattle.std.proofs.Common.{◌≡◌, ℕ, zero, suc, ◌+◌, ◌*◌, ◌<◌, ◌≤◌, ◌⊎◌, inl, inr, length, refl, subst, arith}
-use Rattle.cn_floor.proofs.Common.{Balancer, End, Exit, IsWellFormed, LeadsOn, Stands, Table, end_of}
-use Rattle.cn_tables.specs.Levels.{IsLevel}
-use Rattle.cn_tables.specs.Network.{IsNetwork, Network}
-use Rattle.cn_tables.proofs.CallerLemmas.{levels}
+use Rattle.cn_floor.proofs.Common.{◌≡◌, ℕ, zero, suc, ◌+◌, ◌*◌, ◌<◌, ◌≤◌, ◌⊎◌, inl, inr, length, refl, subst, arith, Balancer, End, Exit, IsWellFormed, LeadsOn, Stands, Table, end_of, IsLevel, IsNetwork, Network, levels}
 
 module _ (t : Table) (w : IsWellFormed t) (n : ℕ) (level : ℕ → ℕ) (is : IsLevel t n level) where
   -- no wire lies deeper than those of the exits

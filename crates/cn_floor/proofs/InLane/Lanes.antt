@@ -1,15 +1,5 @@
 -- What a lane holds is what its view says, also after a step.
-use Rattle.std.proofs.Common.{Global, Vec, ◌≡◌, ℕ, ◌+◌, ◌-◌, ◌%◌, ◌<◌, ◌≤◌, List, [], ◌∷◌, ◌++◌, length, get_or, Some, sym, ap, ◌∙◌, subst, arith, append-nil}
-use Rattle.std.specs.Prelude.{vec_capacity}
-use Rattle.cn_floor.proofs.Common.{Balancer, End, Exit, FloorValue, Grant, IsAtomicStep, IsLetBy, LaneValue, Start, View, after_enter, after_step, base, end_of, last_on, length_push, name_of, on, output_wire, tokens_in, without}
-use Rattle.cn_yard.specs.Lists.{Admits, Moves, Releases, standing}
-use Rattle.cn_ledger.specs.Moves.{IsMoveOf}
-use Rattle.cn_ledger.specs.declared.moved.Moved.{Moved}
-use Rattle.cn_floor.specs.declared.floor.lane.Lane.TheInside.{Inside}
-use Rattle.cn_floor.specs.InsideLane.{IsLane}
-use Rattle.cn_floor.specs.Lane.{PutsOn, StepsOn}
-use Rattle.cn_floor.specs.Rule.{FitsLanes}
-use Rattle.cn_floor.specs.Steps.{answer_at}
+use Rattle.cn_floor.proofs.Common.{Global, Vec, ◌≡◌, ℕ, ◌+◌, ◌-◌, ◌%◌, ◌<◌, ◌≤◌, List, [], ◌∷◌, ◌++◌, length, get_or, Some, sym, ap, ◌∙◌, subst, arith, append-nil, vec_capacity, Balancer, End, Exit, FloorValue, Grant, IsAtomicStep, IsLetBy, LaneValue, Start, View, after_enter, after_step, base, end_of, last_on, length_push, name_of, on, output_wire, tokens_in, without, Admits, Moves, Releases, standing, IsMoveOf, Moved, Inside, IsLane, PutsOn, StepsOn, FitsLanes, answer_at}
 use Rattle.cn_floor.proofs.Lists.{made}
 
 module _ (old new : Inside) (token client : ℕ) (kept : IsLane old) (home : new.post.home ≡ old.post.home) where

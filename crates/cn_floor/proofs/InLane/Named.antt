@@ -1,11 +1,5 @@
 -- A client that walks through by itself.
-use Rattle.std.proofs.Common.{◌≡◌, ℕ, ◌+◌, ◌-◌, ◌%◌, ◌^◌, ◌<◌, ◌≤◌, ◌++◌, ◌∷◌, inl, inr, All, List, [], get_or, length, replicate, refl, sym, subst, ap, ◌∙◌, arith}
-use Rattle.std.proofs.Math.Nat.{mul-le-mul_left}
-use Rattle.std.proofs.Math.Seq.{get_or-append_seam}
-use Rattle.cn_floor.proofs.Common.{Balancer, Exit, Grant, IsAlone, IsAtomicStep, IsStart, Ledger, Start, StoodInState, View, after_enter, after_step, base, cases_lt, last_on, length-map-range_with_len, length_push, name_of, on, output_wire, without}
-use Rattle.cn_floor.specs.Alone.{OnlyPassed, PassesOn}
-use Rattle.cn_floor.specs.Named.{IsGranted, WalksThrough}
-use Rattle.cn_floor.specs.Rule.{FitsLanes}
+use Rattle.cn_floor.proofs.Common.{◌≡◌, ℕ, ◌+◌, ◌-◌, ◌%◌, ◌^◌, ◌<◌, ◌≤◌, ◌++◌, ◌∷◌, inl, inr, All, List, [], get_or, length, replicate, refl, sym, subst, ap, ◌∙◌, arith, mul-le-mul_left, get_or-append_seam, Balancer, Exit, Grant, IsAlone, IsAtomicStep, IsStart, Ledger, Start, StoodInState, View, after_enter, after_step, base, cases_lt, last_on, length-map-range_with_len, length_push, name_of, on, output_wire, without, OnlyPassed, PassesOn, IsGranted, WalksThrough, FitsLanes}
 use Rattle.cn_floor.proofs.Lists.{made_at, made-beyond}
 use Rattle.cn_floor.proofs.AtClose.Rises.{all-empty}
 use Rattle.cn_floor.proofs.InStates.Bounds.{few-came}

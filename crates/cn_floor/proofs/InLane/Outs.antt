@@ -1,10 +1,5 @@
 -- The tokens of a wire leave one after the other.
-use Rattle.std.proofs.Common.{◌≡◌, ℕ, suc, ◌+◌, ◌-◌, ◌<◌, ◌≤◌, List, [], ◌∷◌, ◌++◌, length, refl, sym, ap, ◌∙◌, subst, arith, Some, append-nil, length-append}
-use Rattle.cn_floor.proofs.Common.{Grant, IsThere, Yard, append_assoc, length_push, name_of, on, times_in}
-use Rattle.cn_yard.specs.Deals.{Frees}
-use Rattle.cn_yard.specs.Lists.{Releases, standing}
-use Rattle.cn_yard.proofs.CallerLemmas.{IsFirst, first-there, once-gone, rest-on, there-alike}
-use Rattle.cn_floor.specs.Sweeps.{grants_out}
+use Rattle.cn_floor.proofs.Common.{◌≡◌, ℕ, suc, ◌+◌, ◌-◌, ◌<◌, ◌≤◌, List, [], ◌∷◌, ◌++◌, length, refl, sym, ap, ◌∙◌, subst, arith, Some, append-nil, length-append, Grant, IsThere, Yard, append_assoc, length_push, name_of, on, times_in, Frees, Releases, standing, IsFirst, first-there, once-gone, rest-on, there-alike, grants_out}
 
 -- a release after others
 frees-next : (done : List (ℕ × ℕ)) (old between new : Yard) (e : ℕ × ℕ) → Frees done old between → Releases between new e.0

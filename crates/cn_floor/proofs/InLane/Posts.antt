@@ -1,9 +1,6 @@
 -- What a post keeps, also after a step.
-use Rattle.std.proofs.Common.{◌≡◌, ℕ, zero, suc, ◌+◌, ◌≤◌, ◌++◌, List, [], length, refl, sym, ap, ◌∙◌, arith}
-use Rattle.std.specs.Prelude.{slice_index}
-use Rattle.cn_floor.proofs.Common.{Start, View, after_enter, last_on, length-map-range_with_len, on}
+use Rattle.cn_floor.proofs.Common.{◌≡◌, ℕ, zero, suc, ◌+◌, ◌≤◌, ◌++◌, List, [], length, refl, sym, ap, ◌∙◌, arith, slice_index, Start, View, after_enter, last_on, length-map-range_with_len, on, after_enters}
 use Rattle.cn_floor.specs.declared.floor.post.Post.TheInside.{Inside}
-use Rattle.cn_floor.specs.EntersAll.{after_enters}
 use Rattle.cn_floor.specs.InsidePost.{IsPost}
 
 -- a post that steps keeps its floor and its wires, and loads nothing

@@ -1,15 +1,6 @@
 -- What a lane holds is what its view says, also after a sweep.
-use Rattle.std.proofs.Common.{◌≡◌, ◌≢◌, ℕ, zero, suc, ◌+◌, ◌-◌, ◌*◌, ◌%◌, ◌<◌, ◌≤◌, List, [], ◌∷◌, ◌++◌, length, get_or, refl, sym, ap, ◌∙◌, subst, arith, append-nil, length-append, inl, inr}
-use Rattle.std.specs.Prelude.{vec_capacity}
-use Rattle.cn_floor.proofs.Common.{AreLetBy, Balancer, End, Exit, FloorValue, Grant, LaneValue, Lists, Start, View, Yard, after_step, after_sweep, append_assoc, base, cases_lt, end_of, get_or_past, last_on, length-map-range_with_len, name_of, on, output_wire, times_in, tokens_in, without}
-use Rattle.cn_yard.specs.Deals.{Deals, Frees, IsCleared, IsDealt, out_of}
-use Rattle.cn_yard.specs.Lists.{Moves, Releases}
-use Rattle.cn_yard.proofs.CallerLemmas.{once-gone, others-on, rest-on}
-use Rattle.cn_floor.specs.declared.floor.lane.Lane.TheInside.{Inside}
+use Rattle.cn_floor.proofs.Common.{◌≡◌, ◌≢◌, ℕ, zero, suc, ◌+◌, ◌-◌, ◌*◌, ◌%◌, ◌<◌, ◌≤◌, List, [], ◌∷◌, ◌++◌, length, get_or, refl, sym, ap, ◌∙◌, subst, arith, append-nil, length-append, inl, inr, vec_capacity, AreLetBy, Balancer, End, Exit, FloorValue, Grant, LaneValue, Lists, Start, View, Yard, after_step, after_sweep, append_assoc, base, cases_lt, end_of, get_or_past, last_on, length-map-range_with_len, name_of, on, output_wire, times_in, tokens_in, without, Deals, Frees, IsCleared, IsDealt, out_of, Moves, Releases, once-gone, others-on, rest-on, Inside, IsLane, FitsLanes, PutsAll, SweepsOn, after_steps, grants_out, sweep_at}
 use Rattle.cn_floor.specs.declared.view.Sweep.{Sweep}
-use Rattle.cn_floor.specs.InsideLane.{IsLane}
-use Rattle.cn_floor.specs.Rule.{FitsLanes}
-use Rattle.cn_floor.specs.Sweeps.{PutsAll, SweepsOn, after_steps, grants_out, sweep_at}
 use Rattle.cn_floor.proofs.Lists.{made}
 use Rattle.cn_floor.proofs.InLane.Outs.{grants-many}
 

@@ -1,10 +1,6 @@
 -- The yard of a lane.
-use Rattle.std.proofs.Common.{rules, ◌≡◌, ℕ, zero, suc, ◌<◌, inl, inr, eqb, List, [], ◌∷◌, length, replicate, Option, Some, None, sym, refl, ap, subst, arith}
-use Rattle.std.specs.Prelude.{IsSome}
+use Rattle.cn_floor.proofs.Common.{rules, ◌≡◌, ℕ, zero, suc, ◌<◌, inl, inr, eqb, List, [], ◌∷◌, length, replicate, Option, Some, None, sym, refl, ap, subst, arith, IsSome, Lists, cases_eq, cases_lt, eq-eqb, get_or_past, length-replicate, on, sum-below-zero, tokens_in, get_or-replicate, IsLowest, empty, first_of, here_or, standing, standing_below}
 use Rattle.std.specs.Map.{lookup}
-use Rattle.cn_floor.proofs.Common.{Lists, cases_eq, cases_lt, eq-eqb, get_or_past, length-replicate, on, sum-below-zero, tokens_in}
-use Rattle.std.proofs.lemmas.List.{get_or-replicate}
-use Rattle.cn_yard.specs.Lists.{IsLowest, empty, first_of, here_or, standing, standing_below}
 
 -- where nobody stands on any wire nobody is inside
 pub nobody-there : (y : Lists) → ((wire : ℕ) → length (on y wire) ≡ 0) → tokens_in y ≡ 0

@@ -1,10 +1,6 @@
 -- Each view accounts for its clients, also after a step.
-use Rattle.std.proofs.Common.{◌≡◌, ℕ, ◌+◌, ◌-◌, ◌*◌, ◌%◌, ◌<◌, inl, inr, eqb, [], ◌∷◌, ◌++◌, length, get_or, ap, ◌∙◌, arith}
-use Rattle.cn_floor.proofs.Common.{Balancer, End, Exit, Grant, IsAccounted, IsThere, Network, View, after_enter, after_step, base, cases_eq, end_of, eq-eqb, last_on, length-map-range_with_len, length_push, name_of, ne_eqb, on, on_in, output_wire, sum-below-one, sum-below-same, sum-below-zero, sum_below, when, without}
-use Rattle.std.proofs.lemmas.List.Elements.{All-push}
-use Rattle.cn_ledger.specs.Events.{one_at}
+use Rattle.cn_floor.proofs.Common.{◌≡◌, ℕ, ◌+◌, ◌-◌, ◌*◌, ◌%◌, ◌<◌, inl, inr, eqb, [], ◌∷◌, ◌++◌, length, get_or, ap, ◌∙◌, arith, Balancer, End, Exit, Grant, IsAccounted, IsThere, Network, View, after_enter, after_step, base, cases_eq, end_of, eq-eqb, last_on, length-map-range_with_len, length_push, name_of, ne_eqb, on, on_in, output_wire, sum-below-one, sum-below-same, sum-below-zero, sum_below, when, without, All-push, one_at, sum-below-shift}
 use Rattle.cn_floor.proofs.InStates.Ledgers.{on-after-enter, on-after_step, onto, Lands}
-use Rattle.cn_spec.proofs.CallerLemmas.{sum-below-shift}
 
 -- ---- sums over wires, each counted g times
 

@@ -1,10 +1,6 @@
 -- No count is more than the clients that came, and no name is one of an earlier floor.
-use Rattle.std.proofs.Common.{◌≡◌, ℕ, ◌+◌, ◌<◌, ◌≤◌, inl, inr, cond, [], length, sum_by, refl, ap, ◌∙◌, arith}
-use Rattle.cn_floor.proofs.Common.{End, Exit, HoldsAt, Stands, Start, State, Table, View, base, cases_lt, clients_in, count_in, entered_in, le-ltb, ledger_of, lt-ltb, name_of, once_below, sum-below-same, sum_below, times}
-use Rattle.cn_spec.specs.Step.{share}
+use Rattle.cn_floor.proofs.Common.{◌≡◌, ℕ, ◌+◌, ◌<◌, ◌≤◌, inl, inr, cond, [], length, sum_by, refl, ap, ◌∙◌, arith, End, Exit, HoldsAt, Stands, Start, State, Table, View, base, cases_lt, clients_in, count_in, entered_in, le-ltb, ledger_of, lt-ltb, name_of, once_below, sum-below-same, sum_below, times, share, name-below, sum-below-plus, sum-below-total, times-below, counts-few, tight}
 use Rattle.cn_floor.proofs.InStates.Totals.{total-le, total_same}
-use Rattle.cn_spec.proofs.CallerLemmas.{name-below, sum-below-plus, sum-below-total, times-below}
-use Rattle.cn_ledger.proofs.CallerLemmas.{counts-few, tight}
 
 module _ (start : Start) (s : State (Unit {0}) View) (kept : HoldsAt start s) where
   abbrev t : Table

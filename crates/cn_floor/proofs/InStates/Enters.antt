@@ -1,11 +1,5 @@
 -- The rule is kept where a client comes in.
-use Rattle.std.proofs.Common.{◌≡◌, ℕ, ◌+◌, ◌%◌, ◌^◌, ◌<◌, ◌≤◌, List, [], ◌∷◌, ◌++◌, length, get_or, set, sym, refl, ap, ◌∙◌, arith, subst, ⊎_elim, length-set}
-use Rattle.cn_floor.proofs.Common.{Allows, HoldsAt, IsAccounted, IsAtomicStep, IsFresh, Me, Start, State, View, after_enter, at_set, base, clients_in, entered_in, get_elem?, keeps, ledger_of, length_push, load_bound, some, sum-below-one, sum-below-part, sum-below-same}
-use Rattle.atomic_table.specs.Table.{stepped}
-use Rattle.cn_spec.specs.Sums.{times}
-use Rattle.cn_ledger.specs.Events.{Enters, one_at}
-use Rattle.cn_floor.specs.History.{Enter}
-use Rattle.cn_floor.specs.Plays.{Coming, ComesIn}
+use Rattle.cn_floor.proofs.Common.{◌≡◌, ℕ, ◌+◌, ◌%◌, ◌^◌, ◌<◌, ◌≤◌, List, [], ◌∷◌, ◌++◌, length, get_or, set, sym, refl, ap, ◌∙◌, arith, subst, ⊎_elim, length-set, Allows, HoldsAt, IsAccounted, IsAtomicStep, IsFresh, Me, Start, State, View, after_enter, at_set, base, clients_in, entered_in, get_elem?, keeps, ledger_of, length_push, load_bound, some, sum-below-one, sum-below-part, sum-below-same, stepped, times, Enters, one_at, Enter, Coming, ComesIn, sum-below-plus, times-append, times-nil, sound-enters}
 use Rattle.cn_floor.proofs.InStates.Bounds.{few-came}
 use Rattle.cn_floor.proofs.InStates.Accounts.{accounted-after-enter}
 use Rattle.cn_floor.proofs.InStates.Fresh.{fresh-grown, names_below}
@@ -14,8 +8,6 @@ use Rattle.cn_floor.proofs.InStates.Ledgers.{enters}
 use Rattle.cn_floor.proofs.InStates.Reached.{reached-by}
 use Rattle.cn_floor.proofs.InStates.Totals.{total-set}
 use Rattle.cn_floor.proofs.InStates.Raised.{entered-raised, entered-word, lanes-raised, raised}
-use Rattle.cn_spec.proofs.CallerLemmas.{sum-below-plus, times-append, times-nil}
-use Rattle.cn_ledger.proofs.CallerLemmas.{sound-enters}
 
 -- one entry more
 times-last : (u e : ℕ) (es : List ℕ) → times u (es ++ e ∷ []) ≡ times u es + one_at e u

@@ -1,9 +1,5 @@
 -- The rule is kept where clients of a list come in by one step.
-use Rattle.std.proofs.Common.{◌≡◌, ℕ, zero, suc, ◌+◌, ◌%◌, ◌^◌, ◌<◌, ◌≤◌, List, [], ◌++◌, length, get_or, set, sym, refl, ap, ◌∙◌, arith, subst}
-use Rattle.std.specs.Prelude.{slice_index}
-use Rattle.cn_floor.proofs.Common.{Allows, HoldsAt, Me, Start, State, Table, View, after_enter, base, clients_in, entered_in, get_elem?, keeps, last_on, ledger_of, length-map-range_with_len, on, some, sum-below-part}
-use Rattle.std.proofs.lemmas.List.{set-get_or, set-set, get_or-set_same}
-use Rattle.cn_floor.specs.EntersAll.{AllComeIn, EnterInTurn, EnteringAll, after_enter_all, after_enters}
+use Rattle.cn_floor.proofs.Common.{◌≡◌, ℕ, zero, suc, ◌+◌, ◌%◌, ◌^◌, ◌<◌, ◌≤◌, List, [], ◌++◌, length, get_or, set, sym, refl, ap, ◌∙◌, arith, subst, slice_index, Allows, HoldsAt, Me, Start, State, Table, View, after_enter, base, clients_in, entered_in, get_elem?, keeps, last_on, ledger_of, length-map-range_with_len, on, some, sum-below-part, set-get_or, set-set, get_or-set_same, AllComeIn, EnterInTurn, EnteringAll, after_enter_all, after_enters}
 use Rattle.cn_floor.proofs.InStates.Bounds.{few-came}
 use Rattle.cn_floor.proofs.InStates.Kept.{counted-alike, kept-recounted, ledger-alike, one-step}
 use Rattle.cn_floor.proofs.InStates.Places.{get-here, set-here}

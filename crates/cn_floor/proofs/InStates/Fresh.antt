@@ -1,10 +1,5 @@
 -- What lanes load from the words of the entries.
-use Rattle.std.proofs.Common.{◌≡◌, ℕ, zero, suc, ◌+◌, ◌≤◌, ◌<◌, Bool, true, false, eqb, List, [], ◌∷◌, ◌++◌, length, get_or, sum, All, sym, refl, ap, ◌∙◌, arith}
-use Rattle.std.proofs.lemmas.Bool.{eqb-true}
-use Rattle.cn_floor.proofs.Common.{Grant, IsFresh, Start, Table, View, base, clients_in, entered_in, length_push, load_bound, sum-below-same, sum_by-cons}
-use Rattle.cn_spec.specs.Sums.{sum_below}
-use Rattle.cn_floor.specs.Views.{after_load, after_load_by}
-use Rattle.cn_spec.proofs.CallerLemmas.{sum-below-fewer, sum-below-front, sum-below-le}
+use Rattle.cn_floor.proofs.Common.{◌≡◌, ℕ, zero, suc, ◌+◌, ◌≤◌, ◌<◌, Bool, true, false, eqb, List, [], ◌∷◌, ◌++◌, length, get_or, sum, All, sym, refl, ap, ◌∙◌, arith, eqb-true, Grant, IsFresh, Start, Table, View, base, clients_in, entered_in, length_push, load_bound, sum-below-same, sum_by-cons, sum_below, after_load, after_load_by, sum-below-fewer, sum-below-front, sum-below-le}
 
 at_more : (ls : List ℕ) (u : ℕ) (g : ℕ → ℕ) → get_or (ls ++ g (length ls) ∷ []) u (g u) ≡ get_or ls u (g u)
 at_more [] zero g = refl

@@ -1,13 +1,5 @@
 -- What happens goes on by each step.
-use Rattle.std.proofs.Common.{◌≡◌, ℕ, zero, suc, ◌+◌, List, [], ◌∷◌, ◌++◌, length, get_or, refl, sym, subst, arith, length-append}
-use Rattle.cn_floor.proofs.Common.{Balancer, End, Exit, Ledger, Table, end_of}
-use Rattle.cn_ledger.specs.Moves.{IsMoveOf}
-use Rattle.cn_ledger.specs.declared.moved.Moved.{Moved}
-use Rattle.cn_ledger.specs.declared.moved.Moved.TheVariants.{On, Out}
-use Rattle.cn_ledger.specs.Events.{Enters}
-use Rattle.cn_floor.specs.EntersAll.{EnterInTurn}
-use Rattle.cn_floor.specs.History.{Enter, Event, GoesFrom, LeadsTo, Step}
-use Rattle.cn_floor.specs.Sweeps.{GoInTurn}
+use Rattle.cn_floor.proofs.Common.{◌≡◌, ℕ, zero, suc, ◌+◌, List, [], ◌∷◌, ◌++◌, length, get_or, refl, sym, subst, arith, length-append, Balancer, End, Exit, Ledger, Table, end_of, IsMoveOf, Moved, On, Out, Enters, EnterInTurn, Enter, Event, GoesFrom, LeadsTo, Step, GoInTurn}
 
 module _ (t : Table) where
   -- ---- histories

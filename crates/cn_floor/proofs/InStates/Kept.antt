@@ -1,7 +1,5 @@
 -- The rule is kept where views change and what they add up to does not.
-use Rattle.std.proofs.Common.{◌≡◌, ℕ, ◌+◌, ◌&&◌, List, length, set, sum_by, subst, refl, arith, eqb, ltb, ⊎_elim}
-use Rattle.cn_floor.proofs.Common.{Balancer, End, Exit, HoldsAt, IsAccounted, IsAtomicStep, IsFresh, IsSound, Ledger, Start, State, Table, View, at_set, base, clients_in, count_in, entered_in, get_elem?, given_in, granted_in, ledger_of, name_of, on_in, once_below, some, standing_in, times, when}
-use Rattle.cn_floor.specs.Rule.{IsReached, KeepsRule}
+use Rattle.cn_floor.proofs.Common.{◌≡◌, ℕ, ◌+◌, ◌&&◌, List, length, set, sum_by, subst, refl, arith, eqb, ltb, ⊎_elim, Balancer, End, Exit, HoldsAt, IsAccounted, IsAtomicStep, IsFresh, IsSound, Ledger, Start, State, Table, View, at_set, base, clients_in, count_in, entered_in, get_elem?, given_in, granted_in, ledger_of, name_of, on_in, once_below, some, standing_in, times, when, IsReached, KeepsRule}
 use Rattle.cn_floor.proofs.InStates.Places.{get-here}
 use Rattle.cn_floor.proofs.InStates.Totals.{total-set}
 

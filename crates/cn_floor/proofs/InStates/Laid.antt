@@ -1,6 +1,5 @@
 -- Words that are laid a stride apart one after the other.
-use Rattle.std.proofs.Common.{◌≡◌, ℕ, zero, suc, ◌+◌, ◌-◌, ◌*◌, ◌<◌, ◌≤◌, List, [], ◌∷◌, ◌++◌, length, replicate, get_or, set, refl, ap, ◌∙◌, arith}
-use Rattle.cn_floor.proofs.Common.{spread}
+use Rattle.cn_floor.proofs.Common.{◌≡◌, ℕ, zero, suc, ◌+◌, ◌-◌, ◌*◌, ◌<◌, ◌≤◌, List, [], ◌∷◌, ◌++◌, length, replicate, get_or, set, refl, ap, ◌∙◌, arith, spread}
 
 -- the first words, and zeros for the others
 abbrev pub laid : ℕ → List ℕ → List ℕ

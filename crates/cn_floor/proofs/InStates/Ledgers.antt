@@ -1,11 +1,5 @@
 -- Each step of a lane is one event on the floor's ledger.
-use Rattle.std.proofs.Common.{◌≡◌, ℕ, ◌+◌, ◌-◌, ◌%◌, ◌<◌, ◌≤◌, ◌&&◌, Bool, true, false, cond, eqb, List, [], length, get_or, set, sym, refl, ap, ◌∙◌, arith, subst}
-use Rattle.cn_floor.proofs.Common.{Balancer, End, Exit, Grant, IsThere, Ledger, Stands, Start, Table, View, after_enter, after_step, base, count_in, end_of, end_word, get_elem?, given_in, granted_in, ledger_of, name_of, on_in, output_wire, some, standing_in, when, word_count}
-use Rattle.std.proofs.lemmas.Bool.Decides.{nat_tests}
-use Rattle.std.proofs.lemmas.List.Sums.{sum_by_push}
-use Rattle.cn_tables.specs.Table.{is_end}
-use Rattle.cn_ledger.specs.Events.{Enters, Goes, Leaves, Passes, one_at}
-use Rattle.cn_floor.specs.declared.view.Passage.{Passage}
+use Rattle.cn_floor.proofs.Common.{◌≡◌, ℕ, ◌+◌, ◌-◌, ◌%◌, ◌<◌, ◌≤◌, ◌&&◌, Bool, true, false, cond, eqb, List, [], length, get_or, set, sym, refl, ap, ◌∙◌, arith, subst, Balancer, End, Exit, Grant, IsThere, Ledger, Stands, Start, Table, View, after_enter, after_step, base, count_in, end_of, end_word, get_elem?, given_in, granted_in, ledger_of, name_of, on_in, output_wire, some, standing_in, when, word_count, nat_tests, sum_by_push, is_end, Enters, Goes, Leaves, Passes, one_at, Passage}
 use Rattle.cn_floor.proofs.Lists.{ones, weigh-come, weigh-leave, weigh-pass}
 use Rattle.cn_floor.proofs.InStates.Totals.{total-set}
 use Rattle.cn_floor.proofs.InStates.Raised.{count-kept, count-raised, entered-kept, entered-raised, raised}

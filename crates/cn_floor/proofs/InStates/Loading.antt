@@ -1,10 +1,5 @@
 -- A load keeps the rule, and the last one gives the answer.
-use Rattle.std.proofs.Common.{◌≡◌, ℕ, ◌+◌, ◌-◌, ◌≤◌, ◌<◌, Bool, true, false, eqb, List, [], ◌∷◌, ◌++◌, length, get_or, set, sum, sum_by, sym, refl, ap, ◌∙◌, subst, ⊎_elim, arith}
-use Rattle.cn_floor.proofs.Common.{Allows, Balancer, End, Exit, HoldsAt, IsAccounted, IsAnswer, IsFresh, Me, Network, Start, StoodInState, Table, View, at_set, base, cases_lt, clients_in, entered_in, eq-eqb, given_in, granted_in, keeps, length_push, load_bound, ne_eqb, on_in, standing_in, times}
-use Rattle.std.proofs.lemmas.List.{set-get_or}
-use Rattle.std.proofs.lemmas.List.Sums.{sum_by_push}
-use Rattle.cn_floor.specs.Plays.{IsLoad, Loads}
-use Rattle.cn_floor.specs.Views.{after_load, after_load_by}
+use Rattle.cn_floor.proofs.Common.{◌≡◌, ℕ, ◌+◌, ◌-◌, ◌≤◌, ◌<◌, Bool, true, false, eqb, List, [], ◌∷◌, ◌++◌, length, get_or, set, sum, sum_by, sym, refl, ap, ◌∙◌, subst, ⊎_elim, arith, Allows, Balancer, End, Exit, HoldsAt, IsAccounted, IsAnswer, IsFresh, Me, Network, Start, StoodInState, Table, View, at_set, base, cases_lt, clients_in, entered_in, eq-eqb, given_in, granted_in, keeps, length_push, load_bound, ne_eqb, on_in, standing_in, times, set-get_or, sum_by_push, IsLoad, Loads, after_load, after_load_by}
 use Rattle.cn_floor.proofs.InStates.Bounds.{few-came}
 use Rattle.cn_floor.proofs.InStates.Fresh.{fresh-load, load-bound-all, load-bound-few, load-bound-more, low-more, sum-few}
 use Rattle.cn_floor.proofs.InStates.Kept.{AddUpAlike, kept_alike}

@@ -1,15 +1,6 @@
 -- In each state as many names are missing as clients are inside.
-use Rattle.std.proofs.Common.{◌≡◌, ◌≢◌, ℕ, zero, suc, ◌+◌, ◌-◌, ◌/◌, ◌%◌, ◌<◌, ◌≤◌, ◌&&◌, inl, inr, false, cond, eqb, get_or, map, sym, refl, ap, ◌∙◌, arith}
-use Rattle.std.proofs.lemmas.Nat.{mod_below}
-use Rattle.cn_floor.proofs.Common.{Exit, Grant, IsStart, Ledger, Start, Table, View, base, cases_eq, cases_lt, count_in, eq-eqb, get_elem?, given_in, le-ltb, lt-ltb, name_of, ne_eqb, once_below, some, sum-below-same, sum-below-zero, times}
-use Rattle.cn_spec.specs.Step.{share}
-use Rattle.cn_spec.specs.Sums.{sum_below}
-use Rattle.cn_spec.proofs.CallerLemmas.{exit_of-name_of, name-below, name_of-exit_of, sum-by-same, times-map}
-use Rattle.cn_ledger.specs.Ledger.{times_given}
-use Rattle.cn_ledger.proofs.CallerLemmas.{missing}
-use Rattle.cn_floor.specs.Laws.{ledger_at}
+use Rattle.cn_floor.proofs.Common.{◌≡◌, ◌≢◌, ℕ, zero, suc, ◌+◌, ◌-◌, ◌/◌, ◌%◌, ◌<◌, ◌≤◌, ◌&&◌, inl, inr, false, cond, eqb, get_or, map, sym, refl, ap, ◌∙◌, arith, mod_below, Exit, Grant, IsStart, Ledger, Start, Table, View, base, cases_eq, cases_lt, count_in, eq-eqb, get_elem?, given_in, le-ltb, lt-ltb, name_of, ne_eqb, once_below, some, sum-below-same, sum-below-zero, times, share, sum_below, exit_of-name_of, name-below, name_of-exit_of, sum-by-same, times-map, times_given, missing, ledger_at, FloorState, KeepsRule}
 use Rattle.cn_floor.specs.Missing.{came_at, inside_at, names_missing_at, times_granted}
-use Rattle.cn_floor.specs.Rule.{FloorState, KeepsRule}
 use Rattle.cn_floor.proofs.AtClose.Ends.{tight-before}
 use Rattle.cn_floor.proofs.InStates.Bounds.{all-came}
 use Rattle.cn_floor.proofs.InStates.Names.{made, no-grant}

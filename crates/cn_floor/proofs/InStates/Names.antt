@@ -1,12 +1,5 @@
 -- In each state no name stands twice in a lane.
-use Rattle.std.proofs.Common.{◌≡◌, ℕ, ◌+◌, ◌<◌, ◌≤◌, ◌&&◌, inl, inr, Bool, true, false, cond, eqb, List, length, get_or, map, sym, refl, ap, ◌∙◌, arith}
-use Rattle.cn_floor.proofs.Common.{Grant, Ledger, Start, View, base, cases_eq, cases_lt, eq-eqb, get_elem?, granted_in, ne_eqb, some, times}
-use Rattle.std.proofs.lemmas.List.{get_or-map, length-map}
-use Rattle.std.proofs.lemmas.List.Sums.{get_or-le-sum_by}
-use Rattle.cn_spec.proofs.CallerLemmas.{sum-by-same, times-map, times-place}
-use Rattle.cn_ledger.proofs.CallerLemmas.{granted-once, names-differ}
-use Rattle.cn_floor.specs.Laws.{ledger_at}
-use Rattle.cn_floor.specs.Rule.{FloorState, KeepsRule}
+use Rattle.cn_floor.proofs.Common.{◌≡◌, ℕ, ◌+◌, ◌<◌, ◌≤◌, ◌&&◌, inl, inr, Bool, true, false, cond, eqb, List, length, get_or, map, sym, refl, ap, ◌∙◌, arith, Grant, Ledger, Start, View, base, cases_eq, cases_lt, eq-eqb, get_elem?, granted_in, ne_eqb, some, times, get_or-map, length-map, get_or-le-sum_by, sum-by-same, times-map, times-place, granted-once, names-differ, ledger_at, FloorState, KeepsRule}
 use Rattle.cn_floor.proofs.InStates.Totals.{part-le}
 
 pub no-grant : Grant

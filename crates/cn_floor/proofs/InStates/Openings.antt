@@ -1,13 +1,5 @@
 -- A floor at the start.
-use Rattle.std.proofs.Common.{◌≡◌, ℕ, zero, suc, ◌+◌, ◌*◌, ◌≤◌, ◌&&◌, Bool, true, false, cond, eqb, ltb, List, [], ◌∷◌, length, get_or, sum_by, replicate, sym, refl, ap, ◌∙◌, arith, subst}
-use Rattle.cn_floor.proofs.Common.{Balancer, End, Exit, HoldsAt, IsAccounted, IsFresh, IsSound, IsStart, Start, Table, View, base, clients_in, count_in, end_word, entered_in, get_elem?, given_in, granted_in, le-ltb, ledger_of, length-replicate, name_of, on_in, once_below, some, standing_in, sum-below-zero, sum_by-cons, tokens_in, when, word_count}
-use mathlib.Core.Option.{some-injective, some-ne-none}
-use Rattle.atomic_table.specs.Table.{opening}
-use Rattle.cn_floor.specs.History.{LeadsTo}
-use Rattle.cn_floor.specs.Rule.{IsCarried}
-use Rattle.cn_floor.specs.Views.{empty_view, levels_in}
-use Rattle.cn_spec.proofs.CallerLemmas.{times-nil, zero_at}
-use Rattle.cn_ledger.proofs.CallerLemmas.{IsNothing, sound-nothing}
+use Rattle.cn_floor.proofs.Common.{◌≡◌, ℕ, zero, suc, ◌+◌, ◌*◌, ◌≤◌, ◌&&◌, Bool, true, false, cond, eqb, ltb, List, [], ◌∷◌, length, get_or, sum_by, replicate, sym, refl, ap, ◌∙◌, arith, subst, Balancer, End, Exit, HoldsAt, IsAccounted, IsFresh, IsSound, IsStart, Start, Table, View, base, clients_in, count_in, end_word, entered_in, get_elem?, given_in, granted_in, le-ltb, ledger_of, length-replicate, name_of, on_in, once_below, some, standing_in, sum-below-zero, sum_by-cons, tokens_in, when, word_count, some-injective, some-ne-none, opening, LeadsTo, IsCarried, empty_view, levels_in, times-nil, zero_at, IsNothing, sound-nothing}
 
 nothing : (b : Bool) → ◌≡◌ {A = ℕ} (when b 0) 0
 nothing true = refl

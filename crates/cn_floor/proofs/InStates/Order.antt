@@ -1,12 +1,5 @@
 -- In which order names are granted.
-use Rattle.std.proofs.Common.{ℕ, ◌≤◌, List, [], ◌∷◌, ap, arith}
-use Rattle.cn_floor.proofs.Common.{Balancer, End, Exit, IsSound, Ledger, Network, Table, end_of}
-use Rattle.cn_tables.specs.Network.{IsNetwork}
-use Rattle.cn_ledger.specs.Ledger.{all_entered}
-use Rattle.cn_ledger.proofs.CallerLemmas.{between, tight}
-use Rattle.cn_spec.proofs.CallerLemmas.{sum-below-le}
-use Rattle.cn_floor.specs.Consistent.{IsQuiescentlyConsistent}
-use Rattle.cn_floor.specs.History.{Enter, Event, GoesFrom, LeadsTo, Step}
+use Rattle.cn_floor.proofs.Common.{ℕ, ◌≤◌, List, [], ◌∷◌, ap, arith, Balancer, End, Exit, IsSound, Ledger, Network, Table, end_of, IsNetwork, all_entered, between, tight, sum-below-le, IsQuiescentlyConsistent, Enter, Event, GoesFrom, LeadsTo, Step}
 use Rattle.cn_floor.proofs.InStates.Reached.{sound-led}
 
 -- what grows from one ledger to a later one

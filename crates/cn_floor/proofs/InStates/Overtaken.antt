@@ -1,19 +1,7 @@
 -- On a counting network with two exits or more a client may come in after another has left, and get a lower name. One
 -- client stands before its exit while as many others as there are exits walk through, one after the other: the first of
 -- them gets a greater name than those that are free, and the last one the name for which the one that stands had come.
-use Rattle.std.proofs.Common.{◌≡◌, ◌≢◌, ℕ, zero, suc, ◌+◌, ◌-◌, ◌*◌, ◌%◌, ◌<◌, ◌≤◌, ◌&&◌, inl, inr, Bool, true, false, eqb, All, List, [], ◌∷◌, ◌++◌, length, refl, sym, ap, ◌∙◌, subst, arith}
-use Rattle.std.proofs.lemmas.List.Elements.{All-append, All-cons, All-nil}
-use Rattle.std.proofs.Math.Nat.{mul-le-mul_left}
-use Rattle.std.proofs.lemmas.Nat.{mod_below}
-use Rattle.cn_floor.proofs.Common.{Balancer, End, Exit, IsSound, IsWellFormed, LeadsOn, Ledger, Stands, Table, cases_eq, cases_lt, end_of, eq-eqb, name_of, ne_eqb, output_wire, sum-below-one, sum-below-same, when}
-use Rattle.cn_spec.specs.Step.{share}
-use Rattle.cn_spec.proofs.CallerLemmas.{name-below, sum-below-plus}
-use Rattle.cn_tables.specs.Network.{Counts}
-use Rattle.cn_ledger.specs.Events.{one_at}
-use Rattle.cn_ledger.specs.Ledger.{IsQuiescent, all_entered}
-use Rattle.cn_ledger.proofs.CallerLemmas.{entering, leaving-there, passing-there, sound-leaves, tight}
-use Rattle.cn_floor.specs.Consistent.{KeepsRealTimeOrder, client_of}
-use Rattle.cn_floor.specs.History.{Enter, Event, GoesFrom, Happens, LeadsTo, Step}
+use Rattle.cn_floor.proofs.Common.{◌≡◌, ◌≢◌, ℕ, zero, suc, ◌+◌, ◌-◌, ◌*◌, ◌%◌, ◌<◌, ◌≤◌, ◌&&◌, inl, inr, Bool, true, false, eqb, All, List, [], ◌∷◌, ◌++◌, length, refl, sym, ap, ◌∙◌, subst, arith, All-append, All-cons, All-nil, mul-le-mul_left, mod_below, Balancer, End, Exit, IsSound, IsWellFormed, LeadsOn, Ledger, Stands, Table, cases_eq, cases_lt, end_of, eq-eqb, name_of, ne_eqb, output_wire, sum-below-one, sum-below-same, when, share, name-below, sum-below-plus, Counts, one_at, IsQuiescent, all_entered, entering, leaving-there, passing-there, sound-leaves, tight, KeepsRealTimeOrder, client_of, Enter, Event, GoesFrom, Happens, LeadsTo, Step}
 use Rattle.cn_floor.proofs.InStates.GoingOn.{led-none, led-on}
 use Rattle.cn_floor.proofs.InStates.Order.{led-grow}
 use Rattle.cn_floor.proofs.InStates.Reached.{sound-led}

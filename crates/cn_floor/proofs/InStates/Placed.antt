@@ -1,11 +1,6 @@
 -- What a seat may do on a floor's table, in which the words lie a stride apart, by what it may do to the words.
-use Rattle.std.proofs.Common.{◌≡◌, ℕ, ◌*◌, ◌<◌, ◌≤◌, sym, ap, ◌∙◌, arith}
-use Rattle.cn_floor.proofs.Common.{Allows, HoldsAt, Me, Splits, Start, View, start_of, word_count}
-use Rattle.atomic_table.specs.Table.{Joins}
+use Rattle.cn_floor.proofs.Common.{◌≡◌, ℕ, ◌*◌, ◌<◌, ◌≤◌, sym, ap, ◌∙◌, arith, Allows, HoldsAt, Me, Splits, Start, View, start_of, word_count, Joins, IsCounters, FloorState, HoldsSpread}
 use Rattle.cn_floor.specs.declared.floor.counters.Counters.TheInside.{Inside}
-use Rattle.cn_floor.specs.InsideCounters.{IsCounters}
-use Rattle.cn_floor.specs.Rule.{FloorState}
-use Rattle.cn_floor.specs.Spread.{HoldsSpread}
 use Rattle.cn_floor.proofs.InStates.Spreads.{allows-at, joins-spread, low-spread, splits-spread}
 
 module _ (c : Inside) (is : IsCounters c) where

@@ -1,7 +1,5 @@
 -- One place of a list.
-use Rattle.std.proofs.Common.{◌≡◌, ℕ, zero, suc, List, [], ◌∷◌, set, sym, refl, ap}
-use Rattle.cn_floor.proofs.Common.{get_elem?, some}
-use mathlib.Core.Option.{some-injective, some-ne-none}
+use Rattle.cn_floor.proofs.Common.{◌≡◌, ℕ, zero, suc, List, [], ◌∷◌, set, sym, refl, ap, get_elem?, some, some-injective, some-ne-none}
 
 pub set-here : {X : Type 0} (xs : List X) (i : ℕ) (x : X) → get_elem? xs i ≡ some x → set xs i x ≡ xs
 set-here [] i x e = absurd (some-ne-none x (sym e))

@@ -1,10 +1,5 @@
 -- The words of a floor, where one of them rises.
-use Rattle.std.proofs.Common.{◌≡◌, ◌≢◌, ℕ, zero, suc, ◌+◌, ◌<◌, ◌≤◌, inl, inr, cond, eqb, ltb, List, [], ◌∷◌, length, get_or, set, refl, ap, ◌∙◌, arith}
-use Rattle.cn_floor.proofs.Common.{Balancer, End, Exit, Stands, Table, cases_eq, cases_lt, count_in, end_word, entered_in, eq-eqb, le-ltb, lt-ltb, ne_eqb, when, word_count}
-use Rattle.std.proofs.lemmas.Bool.Decides.{nat_tests}
-use Rattle.cn_tables.specs.Table.{is_end}
-use Rattle.cn_ledger.specs.Events.{one_at}
-use Rattle.cn_spec.proofs.CallerLemmas.{one_more-at}
+use Rattle.cn_floor.proofs.Common.{◌≡◌, ◌≢◌, ℕ, zero, suc, ◌+◌, ◌<◌, ◌≤◌, inl, inr, cond, eqb, ltb, List, [], ◌∷◌, length, get_or, set, refl, ap, ◌∙◌, arith, Balancer, End, Exit, Stands, Table, cases_eq, cases_lt, count_in, end_word, entered_in, eq-eqb, le-ltb, lt-ltb, ne_eqb, when, word_count, nat_tests, is_end, one_at, one_more-at}
 
 pub end-there : (t : Table) (end : End) → Stands t end → end_word t end < word_count t
 end-there t (Balancer b) h = omega arith

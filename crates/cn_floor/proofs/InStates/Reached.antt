@@ -1,9 +1,5 @@
 -- Histories: each goes on by an event, and leads from a sound ledger to a sound one.
-use Rattle.std.proofs.Common.{ℕ, List, [], ◌∷◌, subst}
-use Rattle.cn_floor.proofs.Common.{Balancer, End, Exit, IsSound, IsWellFormed, Ledger, Start, Table, end_of}
-use Rattle.cn_floor.specs.History.{Enter, Event, GoesFrom, Happens, LeadsTo, Step}
-use Rattle.cn_floor.specs.Rule.{IsReached}
-use Rattle.cn_ledger.proofs.CallerLemmas.{sound-enters, sound-leaves, sound-passes}
+use Rattle.cn_floor.proofs.Common.{ℕ, List, [], ◌∷◌, subst, Balancer, End, Exit, IsSound, IsWellFormed, Ledger, Start, Table, end_of, Enter, Event, GoesFrom, Happens, LeadsTo, Step, IsReached, sound-enters, sound-leaves, sound-passes}
 
 -- one event more
 pub reached-by : (start : Start) (event : Event) (old new : Ledger) → IsReached start old → Happens start.network.table event old new

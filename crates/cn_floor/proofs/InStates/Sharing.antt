@@ -1,21 +1,10 @@
 -- The rule is kept where a view is cut in two, and where two become one.
-use Rattle.std.proofs.Common.{◌≡◌, ℕ, ◌+◌, ◌*◌, ◌<◌, ◌≤◌, ◌&&◌, List, [], ◌∷◌, ◌++◌, length, get_or, max, set, sum_by, All, cond, eqb, sym, refl, ap, ◌∙◌, subst, ⊎_elim, arith}
-use Rattle.cn_floor.proofs.Common.{Allows, Balancer, End, Exit, Grant, HoldsAt, IsAccounted, IsFresh, Me, Network, Splits, Start, View, at_set, base, clients_in, get_elem?, given_in, granted_in, keeps, load_bound, on_in, some, standing_in, sum-below-zero, sum_by-append, times, tokens_in}
-use Rattle.std.proofs.lemmas.List.{length-append}
-use Rattle.std.proofs.lemmas.List.Elements.{All-append}
-use Rattle.std.proofs.lemmas.List.Sums.{count_by-le-length, sum_by_push}
-use Rattle.atomic_table.specs.Table.{Joins}
-use Rattle.atomic_table.proofs.Lists.{at_snoc, set_else}
-use Rattle.std.proofs.lemmas.List.{set-get_or}
-use Rattle.cn_floor.specs.declared.view.Passage.{Passage}
-use Rattle.cn_floor.specs.Plays.{Looks}
-use Rattle.cn_floor.specs.Views.{after_join, after_look, after_split, empty_view, levels_in, nobody, split_off}
+use Rattle.cn_floor.proofs.Common.{◌≡◌, ℕ, ◌+◌, ◌*◌, ◌<◌, ◌≤◌, ◌&&◌, List, [], ◌∷◌, ◌++◌, length, get_or, max, set, sum_by, All, cond, eqb, sym, refl, ap, ◌∙◌, subst, ⊎_elim, arith, Allows, Balancer, End, Exit, Grant, HoldsAt, IsAccounted, IsFresh, Me, Network, Splits, Start, View, at_set, base, clients_in, get_elem?, given_in, granted_in, keeps, load_bound, on_in, some, standing_in, sum-below-zero, sum_by-append, times, tokens_in, length-append, All-append, count_by-le-length, sum_by_push, Joins, at_snoc, set_else, set-get_or, Passage, Looks, after_join, after_look, after_split, empty_view, levels_in, nobody, split_off, times-append, times-nil}
 use Rattle.cn_floor.proofs.InStates.Bounds.{all-came}
 use Rattle.cn_floor.proofs.InStates.Kept.{AddUpAlike, kept-recounted, kept_alike}
 use Rattle.cn_floor.proofs.InStates.Openings.{accounted-new, on-new, standing-new}
 use Rattle.cn_floor.proofs.InStates.Places.{get-here}
 use Rattle.cn_floor.proofs.InStates.Totals.{part-le, total-set}
-use Rattle.cn_spec.proofs.CallerLemmas.{times-append, times-nil}
 
 -- ---- split
 

@@ -1,15 +1,8 @@
 -- Where one lane has the whole quota, the next number is the count of its own.
-use Rattle.std.proofs.Common.{◌≡◌, ℕ, zero, suc, ◌+◌, ◌*◌, ◌<◌, ◌≤◌, ◌&&◌, inl, inr, Bool, true, false, cond, length, sum_by, sym, refl, ap, ◌∙◌, arith, eqb}
-use Rattle.cn_floor.proofs.Common.{Balancer, End, Exit, Grant, HoldsAt, Stands, Start, State, Table, View, cases_lt, count_in, eq-eqb, get_elem?, given_in, le-ltb, lt-ltb, once_below, some, sum-below-one, sum-below-same, sum-below-zero}
-use Rattle.std.proofs.lemmas.List.Sums.{count_by-le-length}
-use Rattle.cn_spec.specs.Sums.{sum_below}
-use Rattle.cn_floor.specs.declared.view.Passage.{Passage}
-use Rattle.cn_floor.specs.Views.{own_count}
+use Rattle.cn_floor.proofs.Common.{◌≡◌, ℕ, zero, suc, ◌+◌, ◌*◌, ◌<◌, ◌≤◌, ◌&&◌, inl, inr, Bool, true, false, cond, length, sum_by, sym, refl, ap, ◌∙◌, arith, eqb, Balancer, End, Exit, Grant, HoldsAt, Stands, Start, State, Table, View, cases_lt, count_in, eq-eqb, get_elem?, given_in, le-ltb, lt-ltb, once_below, some, sum-below-one, sum-below-same, sum-below-zero, count_by-le-length, sum_below, Passage, own_count, once-in, sum-below-plus, sum-below-total, levels}
 use Rattle.cn_floor.proofs.InStates.Bounds.{count-risen}
 use Rattle.cn_floor.proofs.InStates.Walked.{no-levels}
 use Rattle.cn_floor.proofs.InStates.Totals.{mine-only, part-le, total_same}
-use Rattle.cn_spec.proofs.CallerLemmas.{once-in, sum-below-plus, sum-below-total}
-use Rattle.cn_tables.proofs.CallerLemmas.{levels}
 
 -- the numbers below c, of those below n
 below-once : (n c : ℕ) → c ≤ n → sum_below n (once_below c) ≡ c

@@ -1,10 +1,5 @@
 -- A rule about words holds as well of a table in which they lie a stride apart.
-use Rattle.std.proofs.Common.{◌≡◌, ℕ, zero, suc, ◌+◌, ◌-◌, ◌*◌, ◌<◌, ◌≤◌, List, [], ◌∷◌, ◌++◌, length, replicate, get_or, set, sym, refl, ap, ◌∙◌, subst, arith}
-use Rattle.cn_floor.proofs.Common.{Allows, Me, Splits, State, length-replicate, spread}
-use Rattle.std.proofs.lemmas.List.{length-append}
-use Rattle.std.proofs.Math.Nat.{mul-le-mul_left}
-use Rattle.atomic_table.specs.Table.{Act, Joins, Valid, carried_after, stepped}
-use Rattle.cn_floor.specs.Spread.{HoldsSpread, picked}
+use Rattle.cn_floor.proofs.Common.{◌≡◌, ℕ, zero, suc, ◌+◌, ◌-◌, ◌*◌, ◌<◌, ◌≤◌, List, [], ◌∷◌, ◌++◌, length, replicate, get_or, set, sym, refl, ap, ◌∙◌, subst, arith, Allows, Me, Splits, State, length-replicate, spread, length-append, mul-le-mul_left, Act, Joins, Valid, carried_after, stepped, HoldsSpread, picked}
 
 -- ---- past what lies between
 

@@ -1,13 +1,5 @@
 -- The rule is kept where a token goes on.
-use Rattle.std.proofs.Common.{◌≡◌, ℕ, ◌+◌, ◌-◌, ◌%◌, ◌^◌, ◌<◌, ◌≤◌, true, cond, List, [], length, get_or, set, sym, refl, ap, ◌∙◌, arith, subst, ⊎_elim, length-set}
-use Rattle.cn_floor.proofs.Common.{Allows, Balancer, End, Exit, Grant, HoldsAt, IsAccounted, IsFresh, IsLetBy, IsSound, IsThere, Ledger, Me, Stands, Start, State, Table, View, after_step, at_set, base, clients_in, count_in, end_of, end_word, entered_in, eq-eqb, get_elem?, keeps, ledger_of, load_bound, lt-ltb, name_of, once_below, output_wire, some, times}
-use Rattle.std.proofs.lemmas.List.Elements.{All-push}
-use Rattle.atomic_table.specs.Table.{stepped}
-use Rattle.cn_tables.specs.Table.{is_end}
-use Rattle.cn_ledger.specs.Moves.{IsMoveOf}
-use Rattle.cn_floor.specs.History.{GoesFrom, Step}
-use Rattle.cn_floor.specs.Plays.{Going, GoesOn}
-use Rattle.cn_floor.specs.Steps.{answer_at}
+use Rattle.cn_floor.proofs.Common.{◌≡◌, ℕ, ◌+◌, ◌-◌, ◌%◌, ◌^◌, ◌<◌, ◌≤◌, true, cond, List, [], length, get_or, set, sym, refl, ap, ◌∙◌, arith, subst, ⊎_elim, length-set, Allows, Balancer, End, Exit, Grant, HoldsAt, IsAccounted, IsFresh, IsLetBy, IsSound, IsThere, Ledger, Me, Stands, Start, State, Table, View, after_step, at_set, base, clients_in, count_in, end_of, end_word, entered_in, eq-eqb, get_elem?, keeps, ledger_of, load_bound, lt-ltb, name_of, once_below, output_wire, some, times, All-push, stepped, is_end, IsMoveOf, GoesFrom, Step, Going, GoesOn, answer_at, bounded}
 use Rattle.cn_floor.proofs.InStates.Bounds.{count-few, few-came, name-later}
 use Rattle.cn_floor.proofs.InStates.Accounts.{accounted-after_step}
 use Rattle.cn_floor.proofs.InStates.Fresh.{fresh-grown}
@@ -17,7 +9,6 @@ use Rattle.cn_floor.proofs.InStates.Reached.{reached-by, sound-goes}
 use Rattle.cn_floor.proofs.InStates.Sole.{sole}
 use Rattle.cn_floor.proofs.InStates.Totals.{total-set}
 use Rattle.cn_floor.proofs.InStates.Raised.{count-raised, count-word, entered-kept, lanes-raised, one-end, raised}
-use Rattle.cn_ledger.proofs.CallerLemmas.{bounded}
 
 pub end-self : (end : End) → is_end end end ≡ true
 end-self (Balancer b) = eq-eqb b b refl

@@ -1,11 +1,5 @@
 -- The rule is kept by a sweep: by as many events in turn as tokens go.
-use Rattle.std.proofs.Common.{◌≡◌, ℕ, suc, ◌+◌, ◌*◌, ◌%◌, ◌^◌, ◌<◌, ◌≤◌, inl, inr, cond, List, [], ◌∷◌, ◌++◌, length, get_or, set, sym, refl, ap, ◌∙◌, arith, subst, append-nil}
-use Rattle.cn_floor.proofs.Common.{Allows, Balancer, End, Exit, HoldsAt, IsThere, IsWellFormed, LeadsOn, Ledger, Me, Stands, Start, State, Table, View, after_step, after_sweep, base, cases_lt, clients_in, count_in, end_of, end_word, get_elem?, get_or_past, keeps, last_on, ledger_of, length-map-range_with_len, name_of, ne_eqb, on, output_wire, some, times_in, without}
-use Rattle.std.proofs.lemmas.List.{set-get_or, set-set, get_or-set_same}
-use Rattle.std.proofs.lemmas.Nat.{mod_below}
-use Rattle.cn_yard.proofs.CallerLemmas.{first-there, once-gone, once-moved, rest-on}
-use Rattle.cn_floor.specs.History.{GoesFrom}
-use Rattle.cn_floor.specs.Sweeps.{AllGoOn, GoInTurn, Sweeping, after_steps}
+use Rattle.cn_floor.proofs.Common.{◌≡◌, ℕ, suc, ◌+◌, ◌*◌, ◌%◌, ◌^◌, ◌<◌, ◌≤◌, inl, inr, cond, List, [], ◌∷◌, ◌++◌, length, get_or, set, sym, refl, ap, ◌∙◌, arith, subst, append-nil, Allows, Balancer, End, Exit, HoldsAt, IsThere, IsWellFormed, LeadsOn, Ledger, Me, Stands, Start, State, Table, View, after_step, after_sweep, base, cases_lt, clients_in, count_in, end_of, end_word, get_elem?, get_or_past, keeps, last_on, ledger_of, length-map-range_with_len, name_of, ne_eqb, on, output_wire, some, times_in, without, set-get_or, set-set, get_or-set_same, mod_below, first-there, once-gone, once-moved, rest-on, GoesFrom, AllGoOn, GoInTurn, Sweeping, after_steps}
 use Rattle.cn_floor.proofs.InStates.Bounds.{count-few, few-came, name-later}
 use Rattle.cn_floor.proofs.InStates.Kept.{counted-alike, kept-recounted, ledger-alike, one-step}
 use Rattle.cn_floor.proofs.Lists.{lists_after, made_at, made-beyond}

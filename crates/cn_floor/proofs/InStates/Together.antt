@@ -1,20 +1,10 @@
 -- Two views are taken together for a moment, and cut in two again.
-use Rattle.std.proofs.Common.{◌≡◌, ℕ, ◌+◌, ◌*◌, ◌<◌, ◌≤◌, ◌&&◌, inl, inr, All, List, [], ◌∷◌, ◌++◌, length, get_or, map, set, sum_by, cond, eqb, sym, refl, ap, ◌∙◌, subst, ⊎_elim, arith}
-use Rattle.cn_floor.proofs.Common.{Balancer, End, Exit, Grant, HoldsAt, IsAccounted, IsAnswer, IsFresh, Network, Splits, Start, StoodInState, View, at_set, base, cases_lt, clients_in, get_or_past, given_in, granted_in, length-map-range_with_len, load_bound, on_in, standing_in, sum-below-same, sum_below, sum_by-append, times}
-use Rattle.std.proofs.lemmas.List.{get_or-append-add, get_or_append_left, length-append}
-use Rattle.std.proofs.lemmas.List.Elements.{All-append}
-use Rattle.std.proofs.lemmas.List.Sums.{sum_by_push}
-use Rattle.atomic_table.specs.Table.{Joins}
-use Rattle.atomic_table.proofs.Lists.{at_snoc}
-use Rattle.cn_floor.specs.declared.view.Passage.{Passage}
-use Rattle.cn_floor.specs.Together.{HaveDistinctNames, both_of}
-use Rattle.cn_floor.specs.Views.{nobody}
+use Rattle.cn_floor.proofs.Common.{◌≡◌, ℕ, ◌+◌, ◌*◌, ◌<◌, ◌≤◌, ◌&&◌, inl, inr, All, List, [], ◌∷◌, ◌++◌, length, get_or, map, set, sum_by, cond, eqb, sym, refl, ap, ◌∙◌, subst, ⊎_elim, arith, Balancer, End, Exit, Grant, HoldsAt, IsAccounted, IsAnswer, IsFresh, Network, Splits, Start, StoodInState, View, at_set, base, cases_lt, clients_in, get_or_past, given_in, granted_in, length-map-range_with_len, load_bound, on_in, standing_in, sum-below-same, sum_below, sum_by-append, times, get_or-append-add, get_or_append_left, length-append, All-append, sum_by_push, Joins, at_snoc, Passage, HaveDistinctNames, both_of, nobody, sum-below-plus, times-append, times-map}
 use Rattle.cn_floor.proofs.Lists.{made_at, made-beyond, ones}
 use Rattle.cn_floor.proofs.InStates.Kept.{AddUpAlike, kept_alike}
 use Rattle.cn_floor.proofs.InStates.Names.{names-once}
 use Rattle.cn_floor.proofs.InStates.Sharing.{IsSum, granted-both, joins-sum}
 use Rattle.cn_floor.proofs.InStates.Totals.{total-set}
-use Rattle.cn_spec.proofs.CallerLemmas.{sum-below-plus, times-append, times-map}
 
 module _ (v w : View) (idle : v.loads ≡ []) (long : length w.tokens ≡ length v.tokens) where
   abbrev both : View

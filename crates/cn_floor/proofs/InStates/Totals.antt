@@ -1,7 +1,5 @@
 -- Sums over all views, where one of them changes.
-use Rattle.std.proofs.Common.{◌≡◌, ℕ, zero, suc, ◌+◌, ◌≤◌, List, [], ◌∷◌, set, sum_by, sym, refl, ap, arith}
-use Rattle.cn_floor.proofs.Common.{get_elem?, some, sum_by-cons}
-use mathlib.Core.Option.{some-injective, some-ne-none}
+use Rattle.cn_floor.proofs.Common.{◌≡◌, ℕ, zero, suc, ◌+◌, ◌≤◌, List, [], ◌∷◌, set, sum_by, sym, refl, ap, arith, get_elem?, some, sum_by-cons, some-injective, some-ne-none}
 
 module _ {X : Type 0} where
   -- the total where one view changes

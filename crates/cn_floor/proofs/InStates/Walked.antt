@@ -1,10 +1,5 @@
 -- How many steps the tokens of a lane have taken.
-use Rattle.std.proofs.Common.{◌≡◌, ℕ, ◌+◌, ◌*◌, length, refl, ap, ◌∙◌, arith}
-use Rattle.cn_floor.proofs.Common.{IsAccounted, Start, View, on_in, sum-below-part, sum-below-same, sum-below-zero, tokens_in}
-use Rattle.cn_tables.specs.Network.{IsNetwork}
-use Rattle.cn_tables.proofs.CallerLemmas.{levels}
-use Rattle.cn_floor.specs.Laws.{TakesItsSteps}
-use Rattle.cn_floor.specs.Views.{levels_in}
+use Rattle.cn_floor.proofs.Common.{◌≡◌, ℕ, ◌+◌, ◌*◌, length, refl, ap, ◌∙◌, arith, IsAccounted, Start, View, on_in, sum-below-part, sum-below-same, sum-below-zero, tokens_in, IsNetwork, levels, TakesItsSteps, levels_in}
 
 -- where nobody is inside, there are no levels to add up
 pub no-levels : (level : ℕ → ℕ) (v : View) → tokens_in v.tokens ≡ 0 → levels_in level v ≡ 0

@@ -1,20 +1,10 @@
 -- The numbers of a batch that was read, and how many clients it has.
-use Rattle.cn_report.proofs.Common.{◌≡◌, ◌<◌, ◌≤◌, ◌+◌, ◌^◌, ℕ, List, [], ◌∷◌, ◌++◌, Option, Some, None, Result, Ok, Err, length, map, take, drop, get_or, refl, arith, suc, sym, ap, ◌∙◌, subst, length-append, All, AllByRecursion, cons_option, flat_map, sum_by, nat_tests, length-map, take_all, take_more, All-cons, All-nil, filter_map-append, sum_by-cons, Record}
-use Rattle.std.specs.Result.{result_ok}
+use Rattle.cn_report.proofs.Common.{◌≡◌, ◌<◌, ◌≤◌, ◌+◌, ◌^◌, ℕ, List, [], ◌∷◌, ◌++◌, Option, Some, None, Result, Ok, Err, length, map, take, drop, get_or, refl, arith, suc, sym, ap, ◌∙◌, subst, length-append, All, AllByRecursion, cons_option, flat_map, sum_by, nat_tests, length-map, take_all, take_more, All-cons, All-nil, filter_map-append, sum_by-cons, Record, result_ok, Client, arrival_cause, arrival_in, arrival_with_entry, arrivals_in, arriving, entry_by_rule, ruled_arrival, spelled_cause, IsBatch, arrivals_of, batch_cause, header_cause, record_cause, heading_in, IsClean, number_in, Arrival, BatchEpoch, cause_later}
 use Rattle.std.proofs.lemmas.Option.{none-some}
-use Rattle.cn_ledger.specs.declared.client.Client.{Client}
-use Rattle.cn_texts.specs.Reading.Arrival.{arrival_cause, arrival_in, arrival_with_entry, arrivals_in, arriving, entry_by_rule, ruled_arrival, spelled_cause}
-use Rattle.cn_texts.specs.Reading.Batch.{IsBatch, arrivals_of, batch_cause, header_cause, record_cause}
 use Rattle.cn_texts.specs.declared.reading.bounds.Bounds.{Bounds}
-use Rattle.cn_texts.specs.Reading.Heading.{heading_in}
 use Rattle.cn_texts.specs.declared.reading.batch.arrival.Heading.{Heading}
 use Rattle.cn_texts.specs.declared.reading.batch.arrival.Heading.TheVariants.{WithEntry, ByRule}
-use Rattle.cn_texts.specs.Reading.Faults.{IsClean}
-use Rattle.cn_texts.specs.Reading.Number.{number_in}
-use Rattle.cn_texts.specs.declared.reading.batch.arrival.Arrival.{Arrival}
 use Rattle.cn_texts.specs.declared.reading.batch_fault.BatchCause.{BatchCause}
-use Rattle.cn_texts.specs.declared.reading.batch.BatchEpoch.{BatchEpoch}
-use Rattle.cn_texts.proofs.CallerLemmas.{cause_later}
 
 -- ---- numbers
 

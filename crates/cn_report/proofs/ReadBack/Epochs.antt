@@ -1,13 +1,7 @@
 -- The grants of epochs whose numbers rise, epoch by epoch.
-use Rattle.cn_report.proofs.Common.{◌≡◌, ◌<◌, ◌+◌, ℕ, List, [], ◌∷◌, ◌++◌, length, map, get_or, refl, arith, sym, ap, ◌∙◌, length-append, ◌==◌, ◌≢◌, AllByRecursion, flat_map, range_with_len, eq-eqb, ne_eqb, append-nil, filter-append, sum_by-cons}
+use Rattle.cn_report.proofs.Common.{◌≡◌, ◌<◌, ◌+◌, ℕ, List, [], ◌∷◌, ◌++◌, length, map, get_or, refl, arith, sym, ap, ◌∙◌, length-append, ◌==◌, ◌≢◌, AllByRecursion, flat_map, range_with_len, eq-eqb, ne_eqb, append-nil, filter-append, sum_by-cons, fill_by_all, length-map-range_with_len, EpochRecord, of_epoch, Granted, grant_lines, clients_of_records}
 use Rattle.std.proofs.lemmas.List.Folds.{flat_map-map}
-use Rattle.std.proofs.lemmas.List.FromFn.{fill_by_all, length-map-range_with_len}
 use Rattle.std.proofs.lemmas.Grind.{flat_map-append}
-use Rattle.cn_ledger.specs.declared.record.EpochRecord.{EpochRecord}
-use Rattle.cn_texts.specs.Grants.Granted.{of_epoch}
-use Rattle.cn_texts.specs.declared.grants.record.Granted.{Granted}
-use Rattle.cn_texts.specs.Grants.ListText.{grant_lines}
-use Rattle.cn_texts.specs.Writing.Report.{clients_of_records}
 use Rattle.cn_report.proofs.ReadBack.Records.{line_of}
 
 -- who holds a name of an epoch

@@ -1,10 +1,8 @@
 -- A number that is written as a field is read back.
-use Rattle.cn_report.proofs.Common.{◌≡◌, ◌<◌, ◌^◌, ℕ, List, [], ◌∷◌, Bool, true, false, Some, length, refl, arith, rules, ◌&&◌, decimal, nat_le, nat_lt, list_all, list_any, nat_tests}
+use Rattle.cn_report.proofs.Common.{◌≡◌, ◌<◌, ◌^◌, ℕ, List, [], ◌∷◌, Bool, true, false, Some, length, refl, arith, rules, ◌&&◌, decimal, nat_le, nat_lt, list_all, list_any, nat_tests, default_writer, field_text, needs_byte, number_in}
 use Rattle.std.specs.Char.{is_ascii_digit}
 use Rattle.std.proofs.lemmas.Fmt.{decimal_nonempty, digits_decimal, digits_value-decimal, length-decimal-le}
 use Rattle.std.proofs.lemmas.Str.Parse.{IsDigitsTest, numerals_by_value}
-use Rattle.csv.specs.Writing.{default_writer, field_text, needs_byte}
-use Rattle.cn_texts.specs.Reading.Number.{number_in}
 
 -- the tests of the first digit and of the rest
 tells : IsDigitsTest (λ ds. list_all is_ascii_digit ds ≡ true)

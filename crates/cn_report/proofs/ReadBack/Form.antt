@@ -1,12 +1,8 @@
 -- A grant list that is written keeps the form.
-use Rattle.cn_report.proofs.Common.{◌≡◌, ◌<◌, ◌≤◌, ◌+◌, ℕ, List, [], ◌∷◌, ◌++◌, Some, None, length, map, refl, arith, sym, ap, append_assoc, length-append, ⊤, nat_le, nat_lt, false, fold, le-ltb, append-nil, map-append, nat_tests}
-use Rattle.cn_texts.specs.Reading.Faults.{IsClean}
-use Rattle.cn_texts.specs.Grants.Granted.{form_cause, grant_spelled, grants_spelled, last_epoch}
-use Rattle.cn_texts.specs.Grants.TightList.{grants_form, header_cause, record_form}
-use Rattle.cn_texts.specs.declared.grants.record.Granted.{Granted}
+use Rattle.cn_report.proofs.Common.{◌≡◌, ◌<◌, ◌≤◌, ◌+◌, ℕ, List, [], ◌∷◌, ◌++◌, Some, None, length, map, refl, arith, sym, ap, append_assoc, length-append, ⊤, nat_le, nat_lt, false, fold, le-ltb, append-nil, map-append, nat_tests, IsClean, form_cause, grant_spelled, grants_spelled, last_epoch, grants_form, record_form, Granted, AreClean, clean-all, clean-header, clean-more}
+use Rattle.cn_texts.specs.Grants.TightList.{header_cause}
 use Rattle.cn_report.proofs.ReadBack.Fields.{decimal-back}
 use Rattle.cn_report.proofs.ReadBack.Records.{AllSmall, IsSmall, header_record, record_of}
-use Rattle.cn_texts.proofs.CallerLemmas.{AreClean, clean-all, clean-header, clean-more}
 
 -- a grant that is written is read
 granted-back : (g : Granted) → IsSmall g → grant_spelled (record_of g) ≡ Some g

@@ -1,19 +1,8 @@
 -- What a check finds of a grant list that is written.
-use Rattle.cn_report.proofs.Common.{◌≡◌, ◌<◌, ◌≤◌, ◌+◌, ℕ, List, [], ◌∷◌, ◌++◌, Bool, true, false, length, map, refl, arith, suc, zero, sym, ap, ◌∙◌, ◌||◌, drop, nat_eq, AllByRecursion, fold, list_any, range_with_len, eq-eqb, ne_eqb, append-nil, append_assoc, length-map, fold-append, counts_after, counts_of, shares, shares_after, Record, records_of}
-use Rattle.std.proofs.lemmas.List.FromFn.{length-map-range_with_len}
-use Rattle.std.proofs.lemmas.List.Sorted.{IsPermutation-refl}
-use Rattle.cn_spec.proofs.CallerLemmas.{counts-shares, counts-shares-after}
-use Rattle.cn_spec.specs.declared.limits.TheConstants.{MOST_NAMED}
-use Rattle.cn_ledger.specs.declared.record.EpochRecord.{EpochRecord}
-use Rattle.cn_texts.specs.Grants.Granted.{grants_spelled, of_epoch}
-use Rattle.cn_texts.specs.Grants.TightList.{IsTightList}
-use Rattle.cn_texts.specs.Grants.Printed.{epoch_numbers, printed_epoch, printed_epochs, with_number}
-use Rattle.cn_texts.specs.declared.grants.record.Granted.{Granted}
-use Rattle.cn_texts.specs.Grants.ListText.{grants_text}
+use Rattle.cn_report.proofs.Common.{◌≡◌, ◌<◌, ◌≤◌, ◌+◌, ℕ, List, [], ◌∷◌, ◌++◌, Bool, true, false, length, map, refl, arith, suc, zero, sym, ap, ◌∙◌, ◌||◌, drop, nat_eq, AllByRecursion, fold, list_any, range_with_len, eq-eqb, ne_eqb, append-nil, append_assoc, length-map, fold-append, counts_after, counts_of, shares, shares_after, Record, records_of, length-map-range_with_len, IsPermutation-refl, counts-shares, counts-shares-after, MOST_NAMED, EpochRecord, grants_spelled, of_epoch, IsTightList, epoch_numbers, printed_epoch, printed_epochs, with_number, Granted, grants_text, AreRisingRecords, AreTightRecords, checked_epoch, names_in}
 use Rattle.cn_report.proofs.ReadBack.Epochs.{all_grants, first-epoch, grant_at, grants_of, later-epoch, names-given}
 use Rattle.cn_report.proofs.ReadBack.Form.{grants-read}
 use Rattle.cn_report.proofs.ReadBack.TightAgain.{records-back, small-grants}
-use Rattle.cn_report.specs.TightRecords.{AreRisingRecords, AreTightRecords, checked_epoch, names_in}
 
 -- ---- the epochs' numbers
 

@@ -1,12 +1,9 @@
 -- The records of a grant list that is written.
-use Rattle.cn_report.proofs.Common.{◌≡◌, ◌<◌, ◌≤◌, ◌+◌, ◌^◌, ℕ, List, [], ◌∷◌, ◌++◌, length, map, refl, arith, suc, zero, ap, ◌∙◌, append_assoc, length-append, ⊤, Bool, codes, decimal, if◌then◌else◌, flat_map, Record, records_of}
+use Rattle.cn_report.proofs.Common.{◌≡◌, ◌<◌, ◌≤◌, ◌+◌, ◌^◌, ℕ, List, [], ◌∷◌, ◌++◌, length, map, refl, arith, suc, zero, ap, ◌∙◌, append_assoc, length-append, ⊤, Bool, codes, decimal, if◌then◌else◌, flat_map, Record, records_of, default_writer, escaped, fields_text, is_blank, quote_mark, read_back, row_body, row_text, grant_line, grants_header, Granted}
 use Rattle.csv.specs.Machine.{next_record}
 use Rattle.csv.specs.Reading.{default_config, records_from, strip_bom}
-use Rattle.csv.specs.Writing.{default_writer, escaped, fields_text, is_blank, quote_mark, read_back, row_body, row_text}
 use Rattle.csv.proofs.RoundTrip.{read-write, rows_text}
 use Rattle.csv.specs.declared.parser.State.TheVariants as st
-use Rattle.cn_texts.specs.Grants.ListText.{grant_line, grants_header}
-use Rattle.cn_texts.specs.declared.grants.record.Granted.{Granted}
 use Rattle.cn_report.proofs.ReadBack.Fields.{decimal_text}
 
 -- the fields of the header, and of a grant

@@ -1,19 +1,9 @@
 -- A grant list that is written of tight epochs is tight.
-use Rattle.cn_report.proofs.Common.{◌≡◌, ◌<◌, ◌≤◌, ◌+◌, ◌^◌, ℕ, List, [], ◌∷◌, ◌++◌, length, map, get_or, arith, suc, zero, ap, ◌∙◌, subst, length-append, inl, inr, ◌≢◌, ◌⊎◌, AllByRecursion, range_with_len, eqb_tells, recursion_from_All, true, false, records_of}
-use Rattle.std.proofs.lemmas.List.FromFn.{length-map-range_with_len}
-use Rattle.std.proofs.lemmas.List.Sorted.{IsPermutation-refl}
+use Rattle.cn_report.proofs.Common.{◌≡◌, ◌<◌, ◌≤◌, ◌+◌, ◌^◌, ℕ, List, [], ◌∷◌, ◌++◌, length, map, get_or, arith, suc, zero, ap, ◌∙◌, subst, length-append, inl, inr, ◌≢◌, ◌⊎◌, AllByRecursion, range_with_len, eqb_tells, recursion_from_All, true, false, records_of, length-map-range_with_len, IsPermutation-refl, times-nil, MOST_NAMED, EpochRecord, of_epoch, AreTightGrants, IsTightList, Granted, grants_header, grants_text, AreRisingRecords, AreTightRecords, HasOwnNames}
 use Rattle.std.proofs.Math.Dec.{eqb}
-use Rattle.cn_spec.proofs.CallerLemmas.{times-nil}
-use Rattle.cn_spec.specs.declared.limits.TheConstants.{MOST_NAMED}
-use Rattle.cn_ledger.specs.declared.record.EpochRecord.{EpochRecord}
-use Rattle.cn_texts.specs.Grants.Granted.{of_epoch}
-use Rattle.cn_texts.specs.Grants.TightList.{AreTightGrants, IsTightList}
-use Rattle.cn_texts.specs.declared.grants.record.Granted.{Granted}
-use Rattle.cn_texts.specs.Grants.ListText.{grants_header, grants_text}
 use Rattle.cn_report.proofs.ReadBack.Epochs.{all_grants, clients-held, first-epoch, grant_at, grants-many, grants_of, later-epoch, lines-of-all, names-given}
 use Rattle.cn_report.proofs.ReadBack.Form.{NeverFall, form-clean, grants-read}
 use Rattle.cn_report.proofs.ReadBack.Records.{AllSmall, grants-back, header_record, record_of}
-use Rattle.cn_report.specs.TightRecords.{AreRisingRecords, AreTightRecords, HasOwnNames}
 
 -- an epoch with no grants has no record
 none-tight : AreTightGrants []

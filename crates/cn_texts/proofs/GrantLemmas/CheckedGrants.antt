@@ -1,23 +1,9 @@
 -- The grants that were seen so far.
-use Rattle.cn_texts.proofs.Common.{◌≡◌, ◌<◌, ◌≤◌, ◌+◌, ℕ, Bool, List, [], ◌∷◌, ◌++◌, true, false, Option, Some, None, length, get_or, refl, arith, suc, zero, sym, ap, ◌∙◌, inl, inr, map, subst, take, length-append, length-map, get_or-map, append_assoc, if◌then◌else◌, ◌==◌, ◌⊎◌, nat_eq, AllByRecursion, list_any, append-nil, map-append, filter-append, fold-append, All-from_recursion, All-get_or, lt-ltb, ne_eqb, eq-eqb, leb_tells, nat_tests}
-use Rattle.std.proofs.Math.Dec.{leb}
-use Rattle.std.specs.Prelude.{◌||◌, IfSome, slice_get}
+use Rattle.cn_texts.proofs.Common.{◌≡◌, ◌<◌, ◌≤◌, ◌+◌, ℕ, Bool, List, [], ◌∷◌, ◌++◌, true, false, Option, Some, None, length, get_or, refl, arith, suc, zero, sym, ap, ◌∙◌, inl, inr, map, subst, take, length-append, length-map, get_or-map, append_assoc, if◌then◌else◌, ◌==◌, ◌⊎◌, nat_eq, AllByRecursion, list_any, append-nil, map-append, filter-append, fold-append, All-from_recursion, All-get_or, lt-ltb, ne_eqb, eq-eqb, leb_tells, nat_tests, leb, ◌||◌, IfSome, slice_get, get_or-take, length-take-le, All-from_get_or, list_any_at, list_any_none, get_or_from_slice_get, slice_get-get_or, slice_get_within, AreFresh, AreFreshBefore, AreSeen, HoldsGrants, IsChecked, IsGapBelow, IsTwice, Tells, latest_number, latest_seen, IsFirstRepeat, IsRepeat, has_number, occurrences_from, epoch_numbers, named_epoch, plain_named, with_number, form_cause, has_name, last_epoch, of_epoch, twice_cause, Lacks, Granted, DuplicateClient, DuplicateName, Occurrence}
 use Rattle.std.specs.Option.{is_some}
-use Rattle.std.proofs.lemmas.List.{get_or-take, length-take-le}
-use Rattle.std.proofs.lemmas.List.Elements.{All-from_get_or}
-use Rattle.std.proofs.lemmas.List.Folds.{list_any_at, list_any_none}
-use Rattle.std.proofs.lemmas.Option.{get_or_from_slice_get, slice_get-get_or, slice_get_within}
-use Rattle.cn_texts.specs.Grants.Checked.{AreFresh, AreFreshBefore, AreSeen, HoldsGrants, IsChecked, IsGapBelow, IsTwice, Tells, latest_number, latest_seen}
-use Rattle.cn_texts.specs.Grants.Occurrences.{IsFirstRepeat, IsRepeat, has_number, occurrences_from}
-use Rattle.cn_texts.specs.Grants.Printed.{epoch_numbers, named_epoch, plain_named, with_number}
-use Rattle.cn_texts.specs.Grants.Granted.{form_cause, has_name, last_epoch, of_epoch, twice_cause}
-use Rattle.cn_texts.specs.Grants.TightList.{Lacks}
-use Rattle.cn_texts.specs.declared.grants.record.Granted.{Granted}
 use Rattle.cn_texts.specs.declared.grants.record.GrantCause.TheVariants as cause
-use Rattle.cn_texts.specs.declared.grants.record.Flaw.TheVariants.{DuplicateClient, DuplicateName}
 use Rattle.cn_texts.specs.declared.grants.epochs.Gap.{Gap}
 use Rattle.cn_texts.specs.declared.grants.epochs.Granting.{Granting}
-use Rattle.cn_texts.specs.declared.grants.occurrences.Occurrence.{Occurrence}
 use Rattle.cn_texts.proofs.GrantLemmas.Repeats.{length-occurrences, no-occurrences, occurrence, occurrences-more}
 
 -- an epoch above all of them has none

@@ -1,24 +1,10 @@
 -- The records of a grant list that were taken so far.
-use Rattle.cn_texts.proofs.Common.{◌≡◌, ◌<◌, ◌+◌, ◌⊎◌, ℕ, List, ◌∷◌, [], ◌++◌, Option, Some, None, append-nil, append_assoc, inl, inr, length, drop, suc, take, zero, ⊤, refl, arith, sym, ap, ◌∙◌, length-append, filter_map-append, IfOk, MatchResult, Ok, Err, Result, map, counts_of, shares, Record}
-use Rattle.cn_texts.specs.Grants.Granted.{first_cause, form_cause, grant_spelled, grants_spelled, of_epoch, spelled_cause, spelled_form, twice_cause}
-use Rattle.std.specs.Prelude.{slice_get}
-use Rattle.std.proofs.Math.Seq.{take-length}
-use Rattle.std.proofs.lemmas.List.{length-take-le}
-use Rattle.std.proofs.lemmas.Option.{slice_get_within}
-use Rattle.cn_texts.specs.Grants.Checked.{AreFresh, AreFreshBefore, IsTwice}
+use Rattle.cn_texts.proofs.Common.{◌≡◌, ◌<◌, ◌+◌, ◌⊎◌, ℕ, List, ◌∷◌, [], ◌++◌, Option, Some, None, append-nil, append_assoc, inl, inr, length, drop, suc, take, zero, ⊤, refl, arith, sym, ap, ◌∙◌, length-append, filter_map-append, IfOk, MatchResult, Ok, Err, Result, map, counts_of, shares, Record, first_cause, form_cause, grant_spelled, grants_spelled, of_epoch, spelled_cause, spelled_form, twice_cause, slice_get, take-length, length-take-le, slice_get_within, AreFresh, AreFreshBefore, IsTwice, IsNamedList, epoch_numbers, named_epoch, plain_named, printed_epoch, with_shares, NamedEpoch, counts-shares, Granted, GrantCause, times-nil, IsFirstWithCause, IsFlaw, IsEndFlaw, flaw_of, AreTightGrants, IsTightList, Lacks, Flaw, Read, Form, DuplicateClient, DuplicateName, Gap}
 use Rattle.cn_texts.specs.Grants.TightList.{IsOfReading, header_cause, record_cause}
-use Rattle.cn_texts.specs.Grants.Printed.{IsNamedList, epoch_numbers, named_epoch, plain_named, printed_epoch, with_shares}
-use Rattle.cn_texts.specs.declared.grants.epochs.NamedEpoch.{NamedEpoch}
-use Rattle.cn_spec.proofs.CallerLemmas.{counts-shares}
 use Rattle.cn_texts.specs.declared.grants.record.GrantCause.TheVariants as cause
-use Rattle.cn_texts.specs.declared.grants.record.Granted.{Granted}
-use Rattle.cn_texts.specs.declared.grants.record.GrantCause.{GrantCause}
-use Rattle.cn_spec.proofs.CallerLemmas.{times-nil}
 use Rattle.cn_texts.proofs.ReadingLemmas.FirstFaults.{AreClean, clean-all, clean-header, clean-more, stop-in}
 use Rattle.cn_texts.proofs.GrantLemmas.TightFacts.{AreOnce, list-tight, once-next}
-use Rattle.cn_texts.specs.Grants.TightList.{IsFirstWithCause, IsFlaw, IsEndFlaw, flaw_of, AreTightGrants, IsTightList, Lacks}
-use Rattle.cn_texts.specs.declared.grants.record.Flaw.{Flaw}
-use Rattle.cn_texts.specs.declared.grants.record.Flaw.TheVariants.{Read, Form, DuplicateClient, DuplicateName, Gap, Memory}
+use Rattle.cn_texts.specs.declared.grants.record.Flaw.TheVariants.{Memory}
 
 -- the records so far: a header, and a record for each grant
 pub record AreTaken (most : ℕ) (records : List Record) (grants : List Granted) : Type 0 where

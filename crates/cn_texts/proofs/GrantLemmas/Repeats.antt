@@ -1,18 +1,9 @@
 -- Numbers whose occurrences were sorted: where one stands at an earlier place, and which are missing.
-use Rattle.cn_texts.proofs.Common.{◌≡◌, ◌<◌, ◌≤◌, ◌+◌, ◌-◌, ℕ, List, [], ◌∷◌, ◌++◌, true, false, Option, Some, None, length, get_or, refl, arith, suc, zero, sym, ap, ◌∙◌, inl, inr, map, subst, ◌⊎◌, All, nat_eq, range_with_len, All-get_or, get_or-map, length-map, ne_eqb, eq-eqb, leb_tells, nat_tests}
-use Rattle.std.proofs.Math.Dec.{leb}
-use Rattle.std.specs.Prelude.{IfSome, MatchOption}
+use Rattle.cn_texts.proofs.Common.{◌≡◌, ◌<◌, ◌≤◌, ◌+◌, ◌-◌, ℕ, List, [], ◌∷◌, ◌++◌, true, false, Option, Some, None, length, get_or, refl, arith, suc, zero, sym, ap, ◌∙◌, inl, inr, map, subst, ◌⊎◌, All, nat_eq, range_with_len, All-get_or, get_or-map, length-map, ne_eqb, eq-eqb, leb_tells, nat_tests, leb, IfSome, MatchOption, All-from_get_or, list_any_at, list_any_none, All-permutation, IsPermutation-map, length_permutation, list_any-IsPermutation, ranks_by, sorted_far, times, times-inside, times-order, times-place, times-two, IsFirstRepeat, IsRepeat, has_number, numbers_of, occurrences_from, Occurrence}
 use Rattle.std.specs.List.Sorted.{IsPermutation, IsSorted, IsStrictlyIncreasing}
 use Rattle.std.specs.Ordering.{is_lt, nat_cmp, ordering_then}
-use Rattle.std.proofs.lemmas.List.Elements.{All-from_get_or}
-use Rattle.std.proofs.lemmas.List.Folds.{list_any_at, list_any_none}
 use Rattle.std.proofs.lemmas.Cmp.{nat_cmp_total, on_total, then_total}
-use Rattle.std.proofs.lemmas.List.Sorted.{All-permutation, IsPermutation-map, length_permutation, list_any-IsPermutation, ranks_by, sorted_far}
 use Rattle.std.specs.Cmp.{IsStrictWeakOrder}
-use Rattle.cn_spec.specs.Sums.{times}
-use Rattle.cn_spec.proofs.CallerLemmas.{times-inside, times-order, times-place, times-two}
-use Rattle.cn_texts.specs.Grants.Occurrences.{IsFirstRepeat, IsRepeat, has_number, numbers_of, occurrences_from}
-use Rattle.cn_texts.specs.declared.grants.occurrences.Occurrence.{Occurrence}
 
 -- ---- occurrences in order
 

@@ -1,19 +1,9 @@
 -- A list is tight exactly where no record has a cause and no epoch lacks a name.
-use Rattle.cn_texts.proofs.Common.{nat_tests, ◌≡◌, ◌<◌, ◌≤◌, ◌+◌, ℕ, Bool, List, [], ◌∷◌, ◌++◌, true, false, Option, Some, None, length, map, take, drop, get_or, refl, arith, suc, zero, sym, ap, ◌∙◌, inl, inr, subst, if◌then◌else◌, ◌==◌, ◌≢◌, nat_lt, cons_option, list_any, IfErr, MatchResult, Result, Ok, Err, map-append, length-map, filter-append, eq-eqb, ne_eqb, lt-ltb, le-ltb, eqb_tells, leb_tells, Record}
-use Rattle.std.proofs.lemmas.Option.{none-some}
-use Rattle.cn_spec.specs.Sums.{times}
-use Rattle.cn_spec.proofs.CallerLemmas.{times-append, times-nil}
-use Rattle.cn_spec.proofs.CallerLemmas.{times-cons}
-use Rattle.cn_texts.specs.Reading.Faults.{IsClean, cause_by}
-use Rattle.cn_texts.specs.Grants.Granted.{first_cause, form_cause, grant_spelled, grants_spelled, has_client, has_name, of_epoch, spelled_cause, spelled_form, twice_cause}
-use Rattle.cn_texts.specs.Grants.TightList.{IsFirstWithCause, IsFlaw, IsOutside, AreTightGrants, IsTightList, Lacks, grants_cause, grants_form, header_cause, record_cause, record_form}
-use Rattle.cn_texts.specs.declared.grants.record.Granted.{Granted}
-use Rattle.cn_texts.specs.declared.grants.record.GrantCause.{GrantCause}
+use Rattle.cn_texts.proofs.Common.{nat_tests, ◌≡◌, ◌<◌, ◌≤◌, ◌+◌, ℕ, Bool, List, [], ◌∷◌, ◌++◌, true, false, Option, Some, None, length, map, take, drop, get_or, refl, arith, suc, zero, sym, ap, ◌∙◌, inl, inr, subst, if◌then◌else◌, ◌==◌, ◌≢◌, nat_lt, cons_option, list_any, IfErr, MatchResult, Result, Ok, Err, map-append, length-map, filter-append, eq-eqb, ne_eqb, lt-ltb, le-ltb, eqb_tells, leb_tells, Record, none-some, times, times-append, times-nil, times-cons, IsClean, cause_by, first_cause, form_cause, grant_spelled, grants_spelled, has_client, has_name, of_epoch, spelled_cause, spelled_form, twice_cause, IsFirstWithCause, IsFlaw, IsOutside, AreTightGrants, IsTightList, Lacks, grants_cause, grants_form, record_form, Granted, GrantCause, Flaw, Read, Form, DuplicateClient, DuplicateName, Gap, all_below, at_most_once, once_each, once-there}
+use Rattle.cn_texts.specs.Grants.TightList.{header_cause, record_cause}
 use Rattle.cn_texts.specs.declared.grants.record.GrantCause.TheVariants as cause
-use Rattle.cn_texts.specs.declared.grants.record.Flaw.{Flaw}
-use Rattle.cn_texts.specs.declared.grants.record.Flaw.TheVariants.{Read, Form, DuplicateClient, DuplicateName, Gap, Memory}
+use Rattle.cn_texts.specs.declared.grants.record.Flaw.TheVariants.{Memory}
 use Rattle.cn_texts.proofs.GrantLemmas.CheckedGrants.{of-other, of_same}
-use Rattle.cn_spec.proofs.CallerLemmas.{all_below, at_most_once, once_each, once-there}
 
 -- a number that some grant has stands among theirs, and one that none has does not
 any-times : (f : Granted → ℕ) (n : ℕ) (gs : List Granted) → list_any (λ g. n == f g) gs ≡ true → 1 ≤ times n (map f gs)

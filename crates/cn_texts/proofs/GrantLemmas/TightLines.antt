@@ -1,7 +1,5 @@
 -- The line of a tight epoch, in parts.
-use Rattle.cn_texts.proofs.Common.{◌≡◌, ℕ, List, [], ◌∷◌, ◌++◌, length, map, refl, sym, ap, ap₂, arith, ◌∙◌, append_assoc, sum_by, length-map, sum_by-cons, codes, decimal}
-use Rattle.cn_texts.specs.Writing.Text.{line}
-use Rattle.cn_texts.specs.Grants.TightText.{tight_counts, tight_end, tight_head, tight_line}
+use Rattle.cn_texts.proofs.Common.{◌≡◌, ℕ, List, [], ◌∷◌, ◌++◌, length, map, refl, sym, ap, ap₂, arith, ◌∙◌, append_assoc, sum_by, length-map, sum_by-cons, codes, decimal, line, tight_counts, tight_end, tight_head, tight_line}
 
 -- a line of a word and numbers: each number after a space
 line-counts : (word : List ℕ) (counts : List ℕ) → line (word ∷ map decimal counts) ≡ word ++ (tight_counts counts ++ codes "\n")

@@ -1,16 +1,6 @@
 -- A reader that has read a stretch ahead of what was gathered.
-use Rattle.cn_texts.proofs.Common.{◌≡◌, ℕ, List, [], ◌∷◌, ◌++◌, Bool, Option, Some, length, refl, arith, inl, inr, true, false, ◌∙◌, Result, Ok, Err, HasRead, Record, records_of}
-use Rattle.csv.specs.declared.reader.Reader.{Reader}
-use Rattle.cn_texts.specs.Reading.Batch.{IsBatchFault, IsOfReading, header_cause, record_cause}
-use Rattle.cn_texts.specs.Reading.Gathered.{IsGathered}
-use Rattle.cn_texts.specs.Reading.Heading.{heading_of}
-use Rattle.cn_texts.specs.declared.reading.bounds.Bounds.{Bounds}
-use Rattle.cn_texts.specs.Reading.Stretch.{AreSpelled, AreTaken, EndsAfter, Gathers, HasSameHeader, HasStretch, ReadsStretch}
-use Rattle.cn_texts.specs.declared.reading.batch.arrival.Arrival.{Arrival}
+use Rattle.cn_texts.proofs.Common.{◌≡◌, ℕ, List, [], ◌∷◌, ◌++◌, Bool, Option, Some, length, refl, arith, inl, inr, true, false, ◌∙◌, Result, Ok, Err, HasRead, Record, records_of, Reader, IsBatchFault, IsOfReading, header_cause, record_cause, IsGathered, heading_of, Bounds, AreSpelled, AreTaken, EndsAfter, Gathers, HasSameHeader, HasStretch, ReadsStretch, Arrival, Gathering, Heading, BatchCause}
 use Rattle.cn_texts.specs.declared.reading.batch.arrivals.ArrivalReader.{ArrivalReader}
-use Rattle.cn_texts.specs.declared.reading.batch.gathering.Gathering.{Gathering}
-use Rattle.cn_texts.specs.declared.reading.batch.arrival.Heading.{Heading}
-use Rattle.cn_texts.specs.declared.reading.batch_fault.BatchCause.{BatchCause}
 use Rattle.cn_texts.specs.declared.reading.batch_fault.BatchFault.{BatchFault}
 use Rattle.cn_texts.proofs.ReadingLemmas.BatchRecords.{at-arrivals, clean-of, taken-header}
 use Rattle.cn_texts.proofs.ReadingLemmas.FirstFaults.{stop-other, stop_at}

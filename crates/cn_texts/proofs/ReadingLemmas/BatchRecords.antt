@@ -1,15 +1,6 @@
 -- The records of a batch that were taken so far.
-use Rattle.cn_texts.proofs.Common.{◌≡◌, List, ◌∷◌, [], ◌++◌, Some, None, drop, refl, arith, ap, ◌∙◌, length-append, Ok, filter_map-append, Record}
-use Rattle.std.specs.Result.{result_ok}
-use Rattle.cn_texts.specs.Reading.Arrival.{arrival_cause, arrival_in, arrivals_in, spelled_cause}
-use Rattle.cn_texts.specs.Reading.Batch.{IsBatch, AreEpochsOf, cause_of_heading, header_cause, record_cause}
-use Rattle.cn_texts.specs.Reading.Heading.{heading_in, heading_of, heading_or}
-use Rattle.cn_texts.specs.declared.reading.bounds.Bounds.{Bounds}
-use Rattle.cn_texts.specs.Reading.Stretch.{AreTaken}
-use Rattle.cn_texts.specs.declared.reading.batch.arrival.Arrival.{Arrival}
-use Rattle.cn_texts.specs.declared.reading.batch_fault.BatchCause.{BatchCause}
-use Rattle.cn_texts.specs.declared.reading.batch.BatchEpoch.{BatchEpoch}
-use Rattle.cn_texts.specs.declared.reading.batch.arrival.Heading.{Heading}
+use Rattle.cn_texts.proofs.Common.{◌≡◌, List, ◌∷◌, [], ◌++◌, Some, None, drop, refl, arith, ap, ◌∙◌, length-append, Ok, filter_map-append, Record, result_ok, arrival_cause, arrival_in, arrivals_in, IsBatch, AreEpochsOf, cause_of_heading, header_cause, record_cause, heading_in, heading_of, heading_or, Bounds, AreTaken, Arrival, BatchCause, BatchEpoch, Heading}
+use Rattle.cn_texts.specs.Reading.Arrival.{spelled_cause}
 use Rattle.cn_texts.proofs.ReadingLemmas.FirstFaults.{AreClean, clean-all, clean-header, clean-more}
 
 -- such records as lemmas on first faults take them

@@ -1,10 +1,6 @@
 -- What digits are worth.
-use Rattle.cn_texts.proofs.Common.{◌≡◌, ◌+◌, ◌*◌, ◌-◌, ◌%◌, ◌&&◌, ◌∙◌, ◌<◌, ◌≤◌, ◌^◌, ℕ, suc, List, [], ◌∷◌, Bool, true, false, ap, drop, get_or, length, refl, arith, Some, None, if◌then◌else◌, Option, nat_le, nat_lt, list_all, nat_tests}
-use Rattle.std.specs.Char.{digit_value, is_ascii_digit}
-use Rattle.std.specs.Str.Parse.{digits_value, digits_value_after}
+use Rattle.cn_texts.proofs.Common.{◌≡◌, ◌+◌, ◌*◌, ◌-◌, ◌%◌, ◌&&◌, ◌∙◌, ◌<◌, ◌≤◌, ◌^◌, ℕ, suc, List, [], ◌∷◌, Bool, true, false, ap, drop, get_or, length, refl, arith, Some, None, if◌then◌else◌, Option, nat_le, nat_lt, list_all, nat_tests, digit_value, is_ascii_digit, digits_value, digits_value_after, common_steps, value_in}
 use Rattle.std.proofs.Math.Nat.{pow-le-pow_right, pow-suc, pow-succ', pow-zero}
-use Rattle.std.proofs.lemmas.Grind.{common_steps}
-use Rattle.cn_texts.specs.Reading.Number.{value_in}
 
 -- a byte that is a digit is worth what it is modulo 16
 pub worth-of : (byte : ℕ) → is_ascii_digit byte ≡ true → digit_value byte ≡ byte % 16

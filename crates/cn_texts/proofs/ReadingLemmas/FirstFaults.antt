@@ -1,11 +1,6 @@
 -- The records that were taken so far, none of which has a cause.
-use Rattle.cn_texts.proofs.Common.{◌≡◌, ◌<◌, ◌≤◌, ℕ, List, [], ◌∷◌, ◌++◌, false, Option, Some, None, length, get_or, take, refl, arith, suc, zero, sym, ◌∙◌, inl, inr, length-append, ◌⊎◌, ◌==◌, IfSome, lt-ltb, le-ltb, ne_eqb, leb_tells, take-append-le, HasRead, Record, records_of}
-use Rattle.std.proofs.Math.ListN.{get_or-append}
-use Rattle.std.proofs.Math.Seq.{get_or-append_seam}
-use Rattle.std.proofs.Math.Seq.{take-append_seam}
+use Rattle.cn_texts.proofs.Common.{◌≡◌, ◌<◌, ◌≤◌, ℕ, List, [], ◌∷◌, ◌++◌, false, Option, Some, None, length, get_or, take, refl, arith, suc, zero, sym, ◌∙◌, inl, inr, length-append, ◌⊎◌, ◌==◌, IfSome, lt-ltb, le-ltb, ne_eqb, leb_tells, take-append-le, HasRead, Record, records_of, get_or-append, get_or-append_seam, take-append_seam, Reader, IsClean, IsCleanBefore, IsFirstFault, cause_by}
 use borrow.Author.Count.{below_more}
-use Rattle.csv.specs.declared.reader.Reader.{Reader}
-use Rattle.cn_texts.specs.Reading.Faults.{IsClean, IsCleanBefore, IsFirstFault, cause_by}
 use Rattle.cn_texts.proofs.ReadingLemmas.RecordLists.{read-first}
 
 module _ {C : Type 0} (header : Record → Option C) (later : List Record → Record → Option C) where

@@ -1,15 +1,6 @@
 -- The epochs that were gathered, as arrivals.
-use Rattle.cn_texts.proofs.Common.{◌≡◌, ◌<◌, ◌≤◌, ◌+◌, ℕ, List, [], ◌∷◌, ◌++◌, false, Some, length, map, refl, arith, sym, ap, ◌∙◌, inl, inr, append_assoc, subst, length-append, ◌==◌, nat_eq, nat_le, nat_lt, ◌⊎◌, AllByRecursion, flat_map, list_any, map-append, length-map, append-nil, filter-append, fold-append, lt-ltb, le-ltb, le-leb, lt-leb, ne_eqb, eq-eqb, leb_tells}
-use Rattle.std.proofs.lemmas.Grind.{flat_map-append}
-use Rattle.cn_ledger.specs.declared.client.Client.{Client}
-use Rattle.cn_texts.specs.declared.reading.batch_fault.BatchCause.TheVariants.{EpochBackwards, EntryRange}
-use Rattle.cn_texts.specs.declared.reading.batch.arrival.Arrival.{Arrival}
-use Rattle.cn_texts.specs.declared.reading.batch.BatchEpoch.{BatchEpoch}
-use Rattle.cn_texts.specs.declared.reading.batch.gathering.Gathering.{Gathering}
-use Rattle.cn_texts.specs.Reading.Arrival.{arrival_cause, last_epoch, of_epoch}
-use Rattle.cn_texts.specs.Reading.Batch.{AreEpochsOf, AreRising, arrivals_of}
-use Rattle.cn_texts.specs.declared.reading.bounds.Bounds.{Bounds}
-use Rattle.cn_texts.specs.Reading.Gathered.{HoldsArrivals, IsGathered, adding_cause, ended_after}
+use Rattle.cn_texts.proofs.Common.{◌≡◌, ◌<◌, ◌≤◌, ◌+◌, ℕ, List, [], ◌∷◌, ◌++◌, false, Some, length, map, refl, arith, sym, ap, ◌∙◌, inl, inr, append_assoc, subst, length-append, ◌==◌, nat_eq, nat_le, nat_lt, ◌⊎◌, AllByRecursion, flat_map, list_any, map-append, length-map, append-nil, filter-append, fold-append, lt-ltb, le-ltb, le-leb, lt-leb, ne_eqb, eq-eqb, leb_tells, flat_map-append, Client, EpochBackwards, EntryRange, Arrival, BatchEpoch, Gathering, arrival_cause, AreEpochsOf, AreRising, arrivals_of, Bounds, HoldsArrivals, IsGathered, adding_cause, ended_after}
+use Rattle.cn_texts.specs.Reading.Arrival.{last_epoch, of_epoch}
 
 -- an arrival of this client
 abbrev pub arrival_at : ℕ → Client → Arrival

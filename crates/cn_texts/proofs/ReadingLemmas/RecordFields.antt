@@ -1,10 +1,5 @@
 -- The fields of a record.
-use Rattle.cn_texts.proofs.Common.{◌≡◌, ◌≢◌, ◌<◌, ℕ, List, [], ◌∷◌, Some, None, length, get_or, refl, arith, suc, zero, ap, sym, Err}
-use Rattle.csv.specs.Records.{field_at}
-use Rattle.cn_texts.specs.Grants.Granted.{grant_spelled, granted_from}
-use Rattle.cn_texts.specs.Reading.Arrival.{arrival_with_entry, arriving, entry_by_rule, ruled_arrival}
-use Rattle.cn_texts.specs.Reading.Command.{command_in, spelled}
-use Rattle.cn_texts.specs.Reading.Number.{number_in}
+use Rattle.cn_texts.proofs.Common.{◌≡◌, ◌≢◌, ◌<◌, ℕ, List, [], ◌∷◌, Some, None, length, get_or, refl, arith, suc, zero, ap, sym, Err, field_at, grant_spelled, granted_from, arrival_with_entry, arriving, entry_by_rule, ruled_arrival, command_in, spelled, number_in}
 use Rattle.cn_texts.specs.declared.reading.batch_fault.BatchCause.TheVariants as batch
 use Rattle.cn_texts.specs.declared.reading.schedule_fault.ScheduleCause.TheVariants as schedule
 

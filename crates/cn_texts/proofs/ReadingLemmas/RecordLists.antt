@@ -1,9 +1,7 @@
 -- The list of the records of a text, and the records that were read so far.
-use Rattle.cn_texts.proofs.Common.{◌≡◌, ◌<◌, ◌≤◌, ◌+◌, ◌-◌, ℕ, List, [], ◌∷◌, ◌++◌, true, false, Bool, Option, Some, None, length, refl, arith, suc, zero, sym, ap, ◌∙◌, cond, subst, ◌==◌, ◌||◌, append-nil, IfSome, option_map, HasRead, Record, records_of}
+use Rattle.cn_texts.proofs.Common.{◌≡◌, ◌<◌, ◌≤◌, ◌+◌, ◌-◌, ℕ, List, [], ◌∷◌, ◌++◌, true, false, Bool, Option, Some, None, length, refl, arith, suc, zero, sym, ap, ◌∙◌, cond, subst, ◌==◌, ◌||◌, append-nil, IfSome, option_map, HasRead, Record, records_of, Reached, ReadRecord, default_config, reader_config, reader_state, records_from, source_of, strip_bom, Reader}
 use Rattle.csv.specs.Machine.{Read, ends_at_end, field_after, fields_after, is_end, next_record, step}
 use Rattle.std.specs.Bool.{MatchBool}
-use Rattle.csv.specs.Reading.{Reached, ReadRecord, default_config, reader_config, reader_state, records_from, source_of, strip_bom}
-use Rattle.csv.specs.declared.reader.Reader.{Reader}
 use Rattle.csv.proofs.ReadFacts.{rows-end, rows-more}
 use Rattle.csv.specs.declared.parser.Action.{Action}
 use Rattle.csv.specs.declared.parser.Action.TheVariants as act

@@ -1,6 +1,5 @@
 -- What holds of a result that came, or of the error that came in its place.
-use Rattle.cn_texts.proofs.Common.{◌≡◌, true, Result, Ok, Err, OnOk, IfErr, IfOk}
-use Rattle.std.specs.Result.{is_ok}
+use Rattle.cn_texts.proofs.Common.{◌≡◌, true, Result, Ok, Err, OnOk, IfErr, IfOk, is_ok}
 
 pub on_ok : {X E P : Type 0} (r : Result X E) → is_ok r ≡ true → OnOk r P → P
 on_ok (Ok x) e h = h

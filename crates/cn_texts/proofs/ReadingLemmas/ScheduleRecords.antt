@@ -1,8 +1,6 @@
 -- The records of a schedule that were taken so far, and that they spell one list of commands.
-use Rattle.cn_texts.proofs.Common.{◌≡◌, ℕ, List, ◌∷◌, [], ◌++◌, None, Ok, length, drop, map, refl, arith, sym, ◌∙◌, map-append, Record}
-use Rattle.cn_ledger.specs.declared.command.Command.{Command}
-use Rattle.cn_texts.specs.Reading.Command.{command_in}
-use Rattle.cn_texts.specs.Reading.Schedule.{IsSchedule, command_cause, header_cause, record_cause}
+use Rattle.cn_texts.proofs.Common.{◌≡◌, ℕ, List, ◌∷◌, [], ◌++◌, None, Ok, length, drop, map, refl, arith, sym, ◌∙◌, map-append, Record, Command, command_in, IsSchedule, command_cause}
+use Rattle.cn_texts.specs.Reading.Schedule.{header_cause, record_cause}
 use Rattle.cn_texts.proofs.ReadingLemmas.FirstFaults.{AreClean, clean-all, clean-header, clean-more}
 
 -- the records so far: a header, and a record for each command

@@ -1,15 +1,5 @@
 -- The epochs that were gathered can be served, whatever was read.
-use Rattle.cn_texts.proofs.Common.{◌≡◌, ◌<◌, ◌≤◌, ◌+◌, ℕ, List, [], ◌∷◌, ◌++◌, Bool, true, false, cond, None, length, map, refl, arith, sym, ap, ◌∙◌, length-append, ◌||◌, nat_eq, nat_le, nat_lt, list_any, map-append, All-nil, All-push, lt-ltb, le-ltb, sum_by_push, nat_tests}
-use Rattle.std.proofs.Math.Dec.{eqb}
-use Rattle.cn_ledger.specs.declared.client.Client.{Client}
-use Rattle.cn_spec.specs.Sums.{times}
-use Rattle.cn_spec.proofs.CallerLemmas.{times-append, times-cons, times-nil}
-use Rattle.cn_texts.specs.declared.reading.batch.BatchEpoch.{BatchEpoch}
-use Rattle.cn_texts.specs.declared.reading.batch.gathering.Gathering.{Gathering}
-use Rattle.cn_texts.specs.Reading.Batch.{AreRising, AreServable, MayCome, clients_of_epochs}
-use Rattle.cn_texts.specs.Reading.Bounds.{AreBounds}
-use Rattle.cn_texts.specs.declared.reading.bounds.Bounds.{Bounds}
-use Rattle.cn_texts.specs.Reading.Gathered.{StaysServable, adding_cause, ended_after}
+use Rattle.cn_texts.proofs.Common.{◌≡◌, ◌<◌, ◌≤◌, ◌+◌, ℕ, List, [], ◌∷◌, ◌++◌, Bool, true, false, cond, None, length, map, refl, arith, sym, ap, ◌∙◌, length-append, ◌||◌, nat_eq, nat_le, nat_lt, list_any, map-append, All-nil, All-push, lt-ltb, le-ltb, sum_by_push, nat_tests, eqb, Client, times, times-append, times-cons, times-nil, BatchEpoch, Gathering, AreRising, AreServable, MayCome, clients_of_epochs, AreBounds, Bounds, StaysServable, adding_cause, ended_after}
 use Rattle.cn_texts.proofs.ReadingLemmas.GatheredEpochs.{ended-below, rising_more}
 
 -- no client is few

@@ -1,15 +1,6 @@
 -- Arrivals that were read together, and how far they were gathered.
-use Rattle.cn_texts.proofs.Common.{◌≡◌, ◌<◌, ◌≤◌, ◌+◌, ◌⊎◌, ℕ, List, [], ◌∷◌, ◌++◌, Some, None, drop, get_or, length, take, arith, sym, ap, inl, inr, ◌∙◌, append_assoc, append-nil, Result, Ok, get_or-map, length-map, map-append, take-append-drop, take_all, take_more, Record}
-use Rattle.cn_texts.specs.Reading.Arrival.{arrival_cause, arrival_in, spelled_cause}
-use Rattle.cn_texts.specs.Reading.Batch.{IsBatchFault, IsOfReading, header_cause, record_cause}
-use Rattle.cn_texts.specs.Reading.Gathered.{IsGathered}
-use Rattle.cn_texts.specs.declared.reading.bounds.Bounds.{Bounds}
-use Rattle.cn_texts.specs.Reading.Stretch.{AreSpelled, AreTaken}
-use Rattle.cn_texts.specs.declared.reading.batch.arrival.Arrival.{Arrival}
-use Rattle.cn_texts.specs.declared.reading.batch_fault.BatchCause.{BatchCause}
-use Rattle.cn_texts.specs.declared.reading.batch_fault.BatchCause.TheVariants.{Memory}
-use Rattle.cn_texts.specs.declared.reading.batch.gathering.Gathering.{Gathering}
-use Rattle.cn_texts.specs.declared.reading.batch.arrival.Heading.{Heading}
+use Rattle.cn_texts.proofs.Common.{◌≡◌, ◌<◌, ◌≤◌, ◌+◌, ◌⊎◌, ℕ, List, [], ◌∷◌, ◌++◌, Some, None, drop, get_or, length, take, arith, sym, ap, inl, inr, ◌∙◌, append_assoc, append-nil, Result, Ok, get_or-map, length-map, map-append, take-append-drop, take_all, take_more, Record, arrival_cause, arrival_in, IsBatchFault, IsOfReading, header_cause, record_cause, IsGathered, Bounds, AreSpelled, AreTaken, Arrival, BatchCause, Memory, Gathering, Heading}
+use Rattle.cn_texts.specs.Reading.Arrival.{spelled_cause}
 use Rattle.cn_texts.proofs.ReadingLemmas.BatchRecords.{at-arrivals, clean-of, taken-next}
 use Rattle.cn_texts.proofs.ReadingLemmas.FirstFaults.{stop-other, stop-in}
 

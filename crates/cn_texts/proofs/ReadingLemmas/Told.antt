@@ -1,15 +1,7 @@
 -- Causes that say why a reader stopped.
-use Rattle.cn_texts.proofs.Common.{◌≡◌, ◌∙◌, ℕ, ap, Bool, false, inl, inr, refl, subst, sym, true}
-use Rattle.csv.specs.Reading.{has_failed, reader_source}
-use Rattle.csv.specs.declared.reader.Reader.{Reader}
-use Rattle.cn_texts.specs.Grants.TightList.{IsFlawTold, IsRepeatFlaw, flaw_of, grant_cause_of_fault}
-use Rattle.cn_texts.specs.declared.grants.record.Flaw.{Flaw}
+use Rattle.cn_texts.proofs.Common.{◌≡◌, ◌∙◌, ℕ, ap, Bool, false, inl, inr, refl, subst, sym, true, has_failed, reader_source, Reader, IsFlawTold, IsRepeatFlaw, flaw_of, grant_cause_of_fault, Flaw, GrantCause, batch_cause_of_fault, HasStopped, IsTold, fault_by, BatchCause}
 use Rattle.cn_texts.specs.declared.grants.record.Flaw.TheVariants as flaws
-use Rattle.cn_texts.specs.declared.grants.record.GrantCause.{GrantCause}
 use Rattle.cn_texts.specs.declared.grants.record.GrantCause.TheVariants as grants
-use Rattle.cn_texts.specs.Reading.Batch.{batch_cause_of_fault}
-use Rattle.cn_texts.specs.Reading.Records.{HasStopped, IsTold, fault_by}
-use Rattle.cn_texts.specs.declared.reading.batch_fault.BatchCause.{BatchCause}
 use Rattle.cn_texts.specs.declared.reading.batch_fault.BatchCause.TheVariants as batch
 use Rattle.cn_texts.specs.declared.reading.records.RecordFault.{RecordFault}
 use Rattle.cn_texts.specs.declared.reading.records.RecordFault.TheVariants.{Read}

@@ -1,7 +1,5 @@
 -- Known bytes that grow twice.
-use Rattle.cn_texts.proofs.Common.{◌≡◌, ◌≤◌, ◌+◌, ◌-◌, ℕ, List, ◌++◌, Option, Some, None, append_assoc, ap, ◌∙◌, take, drop, length, take-take}
-use Rattle.std.proofs.Math.Seq.{take-add}
-use Rattle.std.specs.Io.KnownBytes.{Appends}
+use Rattle.cn_texts.proofs.Common.{◌≡◌, ◌≤◌, ◌+◌, ◌-◌, ℕ, List, ◌++◌, Option, Some, None, append_assoc, ap, ◌∙◌, take, drop, length, take-take, take-add, Appends}
 
 appends-more : (a b c : Option (List ℕ)) (xs ys : List ℕ) → Appends a b xs → Appends b c ys → Appends a c (xs ++ ys)
 appends-more None b c xs ys p q = tt

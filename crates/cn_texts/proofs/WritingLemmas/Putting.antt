@@ -1,8 +1,5 @@
 -- A text that is put in pieces, part by part.
-use Rattle.cn_texts.proofs.Common.{add-one, zero-add, ◌∷◌, drop, get_or, ◌≡◌, ℕ, ◌+◌, ◌<◌, ◌≤◌, true, false, List, [], ◌++◌, Option, Result, Ok, Err, length, take, ap, ◌∙◌, sym, subst, append_assoc, append-nil, arith, length-append, length-take, take-append-drop, refl, IfErr, flat_map, range_with_len, flat_map_more, take_all, take_more, take-append-le, IsOnItsWay, Pending, Puts, nothing_put}
-use Rattle.std.proofs.Math.Seq.{take-length}
-use Rattle.cn_spec.proofs.CallerLemmas.{range_more}
-use Rattle.std.specs.Io.KnownBytes.{Appends, Keeps}
+use Rattle.cn_texts.proofs.Common.{add-one, zero-add, ◌∷◌, drop, get_or, ◌≡◌, ℕ, ◌+◌, ◌<◌, ◌≤◌, true, false, List, [], ◌++◌, Option, Result, Ok, Err, length, take, ap, ◌∙◌, sym, subst, append_assoc, append-nil, arith, length-append, length-take, take-append-drop, refl, IfErr, flat_map, range_with_len, flat_map_more, take_all, take_more, take-append-le, IsOnItsWay, Pending, Puts, nothing_put, take-length, range_more, Appends, Keeps}
 use Rattle.std.proofs.KnownBytes.{Appends-kept, Appends-nil, Appends-trans}
 use Rattle.cn_texts.specs.declared.writing.emitting.EmitFault.{EmitFault}
 use Rattle.cn_texts.specs.Writing.Written.{First, HasWritten, Nothing, Whole, Written, written_by}

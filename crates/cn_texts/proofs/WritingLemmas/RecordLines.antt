@@ -1,12 +1,5 @@
 -- The records of epochs, one after another.
-use Rattle.cn_texts.proofs.Common.{◌≡◌, ℕ, ◌+◌, ◌<◌, ◌≤◌, Bool, true, false, List, [], ◌∷◌, ◌++◌, drop, get_or, length, take, ap, ◌∙◌, refl, sym, subst, arith, flat_map, sum_by-cons, drop_more}
-use Rattle.std.proofs.Math.ListN.{drop_of_length-le}
-use Rattle.cn_spec.specs.Sums.{when}
-use Rattle.cn_ledger.specs.declared.record.EpochRecord.{EpochRecord}
-use Rattle.cn_texts.specs.declared.reading.batch.BatchEpoch.{BatchEpoch}
-use Rattle.cn_texts.specs.Reading.Batch.{clients_of_epochs}
-use Rattle.cn_texts.specs.Writing.EpochRecords.{AreRecordsOf, IsRecordOfEpoch}
-use Rattle.cn_texts.specs.Writing.Report.{clients_of_records}
+use Rattle.cn_texts.proofs.Common.{◌≡◌, ℕ, ◌+◌, ◌<◌, ◌≤◌, Bool, true, false, List, [], ◌∷◌, ◌++◌, drop, get_or, length, take, ap, ◌∙◌, refl, sym, subst, arith, flat_map, sum_by-cons, drop_more, drop_of_length-le, when, EpochRecord, BatchEpoch, clients_of_epochs, AreRecordsOf, IsRecordOfEpoch, clients_of_records}
 
 pub when-le : (carry : Bool) (n : ℕ) → when carry n ≤ n
 when-le true n = omega arith

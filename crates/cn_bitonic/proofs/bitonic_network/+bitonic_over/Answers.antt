@@ -1,4 +1,4 @@
-use Rattle.std.proofs.Common.{ℕ, arith}
+use Rattle.cn_bitonic.proofs.Common.{ℕ, arith}
 use Rattle.std.proofs.lemmas.Result.{IfOk-weaker}
 use Rattle.cn_bitonic.proofs.Halves.{BothHalves, back-asked, both_halves, counted-all, counted-one, front-asked, merger-asked, ordered-all, ordered-one}
 use Rattle.cn_bitonic.proofs.bitonic_network.+bitonic_over.Goals as goal

@@ -1,4 +1,4 @@
-use Rattle.std.proofs.Common.{length}
+use Rattle.cn_bitonic.proofs.Common.{length}
 use Rattle.cn_bitonic.proofs.bitonic_network.+bitonic_over.Given as goal
 
 abbrev pub decreases-bitonic_over : goal.decreases-bitonic_over

@@ -1,11 +1,6 @@
-use Rattle.std.proofs.Common.{◌≡◌, ◌∙◌, map, ap, rules}
-use Rattle.std.specs.List.{range_with_len}
+use Rattle.cn_bitonic.proofs.Common.{◌≡◌, ◌∙◌, map, ap, rules, range_with_len, same-level, Drawn, drawn, drawn-built, drawn-counts, entries-row, flows-row, outputs-count, bitonic_plan, bitonic_balancers, bitonic_depth}
 use Rattle.cn_spec.specs.Networks as net
 use Rattle.cn_tables.specs.declared.kind.Kind.TheVariants.{Bitonic}
-use Rattle.cn_spec.proofs.CallerLemmas.{same-level}
-use Rattle.cn_wiring.proofs.CallerLemmas.{Drawn, drawn, drawn-built, drawn-counts, entries-row, flows-row, outputs-count}
-use Rattle.cn_bitonic.specs.Order.{bitonic_plan}
-use Rattle.cn_bitonic.specs.Sizes.{bitonic_balancers, bitonic_depth}
 use Rattle.cn_bitonic.proofs.Halves.{Counted, Sequence}
 use Rattle.cn_bitonic.proofs.Whole.{place_for-all, room_for-all}
 use Rattle.cn_bitonic.proofs.bitonic_network.bitonic.Goals as goal

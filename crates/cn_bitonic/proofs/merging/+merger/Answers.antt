@@ -1,5 +1,4 @@
-use Rattle.std.proofs.Common.{ℕ, ◌∙◌, arith}
-use Rattle.cn_wiring.proofs.CallerLemmas.{all_ok}
+use Rattle.cn_bitonic.proofs.Common.{ℕ, ◌∙◌, arith, all_ok}
 use Rattle.cn_bitonic.proofs.MergerParts.{InnerMergers, first-asked, gives_all, gives_one, inner-mergers, last-asked, orders-all, orders-one, second-asked}
 use Rattle.cn_bitonic.proofs.merging.+merger.Goals as goal
 use Rattle.cn_bitonic.proofs.merging.+merger.Goals.{In_ok-z2}

@@ -1,4 +1,4 @@
-use Rattle.std.proofs.Common.{length}
+use Rattle.cn_bitonic.proofs.Common.{length}
 use Rattle.cn_bitonic.proofs.merging.+merger.Given as goal
 
 abbrev pub decreases-merger : goal.decreases-merger

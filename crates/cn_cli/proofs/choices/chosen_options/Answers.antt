@@ -1,5 +1,4 @@
-use Rattle.std.proofs.Common.{rules}
-use Rattle.clap.specs.Words.{found_of, rows_of}
+use Rattle.cn_cli.proofs.Common.{rules, found_of, rows_of}
 use Rattle.cn_cli.proofs.OneRun.{refused-numbers}
 use Rattle.cn_cli.proofs.choices.chosen_options.Goals as goal
 

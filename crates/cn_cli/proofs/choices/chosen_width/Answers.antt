@@ -1,7 +1,4 @@
-use Rattle.std.proofs.Common.{rules, subst}
-use Rattle.std.specs.Prelude.{codes}
-use Rattle.clap.specs.Words.{found_of, rows_of}
-use Rattle.cn_tables.specs.Widths.{IsWidth}
+use Rattle.cn_cli.proofs.Common.{rules, subst, codes, found_of, rows_of, IsWidth}
 use Rattle.cn_cli.proofs.WordNumbers.{one_number, width-fits}
 use Rattle.cn_cli.proofs.choices.chosen_width.Goals as goal
 

@@ -1,6 +1,5 @@
-use Rattle.std.proofs.Common.{◌≡◌, refl, sym, ◌∙◌, ap, string_bytes}
+use Rattle.cn_cli.proofs.Common.{◌≡◌, refl, sym, ◌∙◌, ap, string_bytes, decimal}
 use Rattle.std.proofs.lemmas.Slice.Eq.{bytes_eq-Decides}
-use Rattle.std.specs.Prelude.{decimal}
 use Rattle.cn_cli.proofs.WordNumbers.{no_other, parsed-number}
 use Rattle.cn_cli.proofs.choices.number_named.Goals as goal
 

@@ -1,5 +1,4 @@
-use Rattle.std.proofs.Common.{◌∙◌}
-use Rattle.clap.specs.Words.{found_of}
+use Rattle.cn_cli.proofs.Common.{◌∙◌, found_of}
 use Rattle.clap.proofs.WalkLemmas.{first_value-rows}
 use Rattle.cn_cli.proofs.choices.value_of.Goals as goal
 

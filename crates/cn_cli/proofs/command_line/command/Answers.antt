@@ -1,8 +1,4 @@
-use Rattle.std.proofs.Common.{◌≡◌, ◌∙◌, ap, ap₂, refl, true}
-use Rattle.std.specs.Prelude.{IfOk, IsOkAnd, Result, Ok, Err}
-use Rattle.std.proofs.lemmas.Result.{IfOk-weaker}
-use Rattle.clap.specs.Words.{App, app_of, with_subcommand}
-use Rattle.cn_cli.specs.CommandLine.{check_words, renamer_words, replay_words, run_words, show_words}
+use Rattle.cn_cli.proofs.Common.{◌≡◌, ◌∙◌, ap, ap₂, refl, true, IfOk, IsOkAnd, Result, Ok, Err, IfOk-weaker, App, app_of, with_subcommand, check_words, renamer_words, replay_words, run_words, show_words}
 use Rattle.cn_cli.proofs.command_line.command.Goals as goal
 
 -- a command with a subcommand that got its memory, where it is known what both are

@@ -1,7 +1,4 @@
-use Rattle.std.proofs.Common.{refl}
-use Rattle.std.specs.Prelude.{codes, Ok}
-use Rattle.clap.specs.Words.{app_of, new_app, with_rule}
-use Rattle.cn_cli.specs.CommandLine.{required_option}
+use Rattle.cn_cli.proofs.Common.{refl, codes, Ok, app_of, new_app, with_rule, required_option}
 use Rattle.cn_cli.proofs.Drafts.{argued}
 use Rattle.cn_cli.proofs.command_line.network_command.Goals as goal
 

@@ -1,7 +1,4 @@
-use Rattle.std.proofs.Common.{◌≡◌, refl}
-use Rattle.std.specs.Prelude.{codes, IfOk}
-use Rattle.clap.specs.Words.{app_of, with_rule}
-use Rattle.cn_cli.specs.CommandLine.{network_words, flag_rule, option_with, run_with_values}
+use Rattle.cn_cli.proofs.Common.{◌≡◌, refl, codes, IfOk, app_of, with_rule, network_words, flag_rule, option_with, run_with_values}
 use Rattle.cn_cli.proofs.Drafts.{argued}
 use Rattle.cn_cli.proofs.command_line.run_command.Goals as goal
 

@@ -1,7 +1,4 @@
-use Rattle.std.proofs.Common.{◌≡◌, ◌&&◌, Bool, not, refl, true, false}
-use Rattle.std.specs.Prelude.{IfOk, IsOkAnd, Result, Ok}
-use Rattle.std.proofs.lemmas.Result.{IfOk-weaker}
-use Rattle.clap.specs.Words.{App, app_of, with_subcommand}
+use Rattle.cn_cli.proofs.Common.{◌≡◌, ◌&&◌, Bool, not, refl, true, false, IfOk, IsOkAnd, Result, Ok, IfOk-weaker, App, app_of, with_subcommand}
 use Rattle.cn_cli.proofs.command_line.with.Goals as goal
 
 -- of a plain command the third test is that it has no global argument

@@ -1,7 +1,4 @@
-use Rattle.std.proofs.Common.{◌≡◌, ◌∙◌, ap}
-use Rattle.std.specs.Prelude.{IsOkAnd, Result, Ok}
-use Rattle.std.proofs.lemmas.Result.{IfOk-weaker}
-use Rattle.clap.specs.Words.{App, Rule, app_of, with_rule}
+use Rattle.cn_cli.proofs.Common.{◌≡◌, ◌∙◌, ap, IsOkAnd, Result, Ok, IfOk-weaker, App, Rule, app_of, with_rule}
 use Rattle.cn_cli.proofs.command_line.with_flag.Goals as goal
 
 -- the command that got its memory is the one that the argument is added to

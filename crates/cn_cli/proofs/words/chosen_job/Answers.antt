@@ -1,4 +1,4 @@
-use Rattle.std.proofs.Common.{rules}
+use Rattle.cn_cli.proofs.Common.{rules}
 use Rattle.cn_cli.proofs.words.chosen_job.Goals as goal
 
 pub returns-in_default : goal.returns-in_default

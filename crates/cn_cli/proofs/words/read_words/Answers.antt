@@ -1,6 +1,4 @@
-use Rattle.std.proofs.Common.{◌≡◌, ◌∙◌, ap, sym, List, map, string_bytes}
-use Rattle.clap.specs.Words.{App, Text, app_of, fault_of, is_simple, is_simple_and_free, kind_of, subcommand_of, subcommand_rows_of}
-use Rattle.cn_cli.specs.CommandLine.{command_line}
+use Rattle.cn_cli.proofs.Common.{◌≡◌, ◌∙◌, ap, sym, List, map, string_bytes, App, Text, app_of, fault_of, is_simple, is_simple_and_free, kind_of, subcommand_of, subcommand_rows_of, command_line}
 use Rattle.cn_cli.proofs.Readings.{answer_to-fault, answer_to-taken, command-line-is_free, command-line-is_simple}
 use Rattle.cn_cli.proofs.words.read_words.Goals as goal
 

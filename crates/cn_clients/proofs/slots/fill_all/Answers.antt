@@ -1,7 +1,4 @@
-use Rattle.std.proofs.Common.{rules, ℕ, [], List, sym, subst}
-use Rattle.std.proofs.lemmas.List.{take_all, take_more}
-use Rattle.cn_clients.specs.declared.filled.Filled.{Filled}
-use Rattle.cn_clients.specs.Slots.{FilledBy}
+use Rattle.cn_clients.proofs.Common.{rules, ℕ, [], List, sym, subst, take_all, take_more, Filled, FilledBy}
 use Rattle.cn_clients.proofs.FilledSlots.{filled-none, filled-one}
 use Rattle.cn_clients.proofs.slots.fill_all.Goals as goal
 

@@ -1,5 +1,4 @@
-use Rattle.std.proofs.Common.{take}
-use Rattle.cn_clients.specs.Slots.{FilledBy}
+use Rattle.cn_clients.proofs.Common.{take, FilledBy}
 use Rattle.cn_clients.proofs.slots.fill_all.Given as goal
 
 abbrev pub invariant-loop-client : goal.invariant-loop-client

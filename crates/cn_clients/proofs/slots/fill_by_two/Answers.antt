@@ -1,7 +1,5 @@
-use Rattle.std.proofs.Common.{◌≡◌, [], length, ap, ◌∙◌}
-use Rattle.cn_yard.specs.Lists.{tokens_in}
+use Rattle.cn_clients.proofs.Common.{◌≡◌, [], length, ap, ◌∙◌, tokens_in, LaneValue}
 use Rattle.cn_floor.specs.declared.view.View.{View}
-use Rattle.cn_floor.specs.Lane.{LaneValue}
 use Rattle.cn_clients.proofs.FilledSlots.{all-filled, nobody-in}
 use Rattle.cn_clients.proofs.slots.fill_by_two.Goals as goal
 

@@ -1,7 +1,4 @@
-use Rattle.std.proofs.Common.{ℕ, [], List, ap, ◌∙◌, sym, subst}
-use Rattle.std.proofs.lemmas.List.{take_all, take_more}
-use Rattle.cn_yard.specs.Lists.{Lists, tokens_in}
-use Rattle.cn_clients.specs.Naming.{GaveNames}
+use Rattle.cn_clients.proofs.Common.{ℕ, [], List, ap, ◌∙◌, sym, subst, take_all, take_more, Lists, tokens_in, GaveNames}
 use Rattle.cn_clients.proofs.Naming.{gave-none, gave-one}
 use Rattle.cn_clients.proofs.two_threads.name_all.Goals as goal
 

@@ -1,5 +1,4 @@
-use Rattle.std.proofs.Common.{take}
-use Rattle.cn_clients.specs.Naming.{GaveNames}
+use Rattle.cn_clients.proofs.Common.{take, GaveNames}
 use Rattle.cn_clients.proofs.two_threads.name_all.Given as goal
 
 abbrev pub invariant-loop-client : goal.invariant-loop-client

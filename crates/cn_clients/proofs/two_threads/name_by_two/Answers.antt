@@ -1,7 +1,4 @@
-use Rattle.std.proofs.Common.{ap, arith}
-use Rattle.cn_spec.specs.Sums.{times}
-use Rattle.cn_floor.specs.Lane.{LaneValue}
-use Rattle.cn_clients.specs.Naming.{names_granted}
+use Rattle.cn_clients.proofs.Common.{ap, arith, times, LaneValue, names_granted}
 use Rattle.cn_clients.proofs.Naming.{among, as-many, below, gave-still}
 use Rattle.cn_clients.proofs.two_threads.name_by_two.Goals as goal
 

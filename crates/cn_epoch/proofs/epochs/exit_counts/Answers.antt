@@ -1,5 +1,4 @@
-use Rattle.std.proofs.Common.{arith}
-use Rattle.std.proofs.lemmas.Grind.{common_steps}
+use Rattle.cn_epoch.proofs.Common.{arith, common_steps}
 use Rattle.cn_epoch.proofs.epochs.exit_counts.Goals as goal
 
 pub loop-exit-preserved : goal.loop-exit-preserved

@@ -1,5 +1,4 @@
-use Rattle.std.proofs.Common.{◌≡◌, ◌+◌, ◌<◌, ◌≤◌, ℕ, slice_index, vec_capacity, vec_len}
-use Rattle.cn_spec.specs.Step.{share}
+use Rattle.cn_epoch.proofs.Common.{◌≡◌, ◌+◌, ◌<◌, ◌≤◌, ℕ, slice_index, vec_capacity, vec_len, share}
 use Rattle.cn_epoch.proofs.epochs.exit_counts.Given as goal
 
 -- the counts of the exits before

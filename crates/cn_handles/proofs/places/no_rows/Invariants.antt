@@ -1,5 +1,4 @@
-use Rattle.std.specs.Prelude.{◌≡◌, length}
-use Rattle.cn_handles.specs.Placing.{AreSlotsOf}
+use Rattle.cn_handles.proofs.Common.{◌≡◌, length, AreSlotsOf}
 use Rattle.cn_handles.proofs.places.no_rows.Given as goal
 
 -- the rows so far are for lanes of the floor

@@ -1,4 +1,4 @@
-use Rattle.std.proofs.Common.{refl}
+use Rattle.cn_ledger.proofs.Common.{refl}
 use Rattle.cn_ledger.proofs.Bound.{granted-once, names-differ}
 use Rattle.cn_ledger.proofs.laws.names_differ.Goals as goal
 

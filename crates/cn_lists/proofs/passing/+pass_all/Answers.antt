@@ -1,8 +1,5 @@
-use Rattle.std.proofs.Common.{◌≡◌, ℕ, ◌+◌, ◌-◌, ◌*◌, ◌/◌, ◌%◌, ◌<◌, ◌≤◌, [], List, length, arith, sym, ap, ◌∙◌, subst}
-use Rattle.std.proofs.lemmas.List.{nil_from_length}
-use Rattle.cn_lists.specs.Listed.{gone_too}
+use Rattle.cn_lists.proofs.Common.{◌≡◌, ℕ, ◌+◌, ◌-◌, ◌*◌, ◌/◌, ◌%◌, ◌<◌, ◌≤◌, [], List, length, arith, sym, ap, ◌∙◌, subst, nil_from_length, gone_too, Network, on}
 use Rattle.cn_lists.proofs.ByPlace.{dealt-too, none-too}
-use Rattle.cn_lists.proofs.Common.{Network, on}
 use Rattle.cn_lists.proofs.InTurn.{swept-both, swept-first, swept-none}
 use Rattle.cn_lists.proofs.Groups.{length-dealt}
 use Rattle.cn_lists.proofs.Together.{first-next, forward, goes-by-itself, grants-by, grants-so, left-by, left-so, second-next}

@@ -1,4 +1,4 @@
-use Rattle.std.proofs.Common.{◌-◌, length}
+use Rattle.cn_lists.proofs.Common.{◌-◌, length}
 use Rattle.cn_lists.proofs.passing.+pass_all.Given as goal
 
 abbrev pub decreases-pass_all : goal.decreases-pass_all

@@ -1,7 +1,4 @@
-use Rattle.std.proofs.Common.{ℕ, ◌<◌, List, length, arith, sym, ap, subst}
-use Rattle.cn_lists.proofs.Common.{FloorValue, View}
-use Rattle.cn_floor.specs.EntersAll.{ComeTogether}
-use Rattle.cn_lists.specs.Listed.{CameIn}
+use Rattle.cn_lists.proofs.Common.{ℕ, ◌<◌, List, length, arith, sym, ap, subst, FloorValue, View, ComeTogether, CameIn}
 use Rattle.cn_lists.proofs.CameIn.{all-came-in}
 use Rattle.cn_lists.proofs.passing.come_in.Goals as goal
 

@@ -1,8 +1,4 @@
-use Rattle.std.proofs.Common.{◌≡◌, ℕ, ◌+◌, ◌==◌, List, ◌++◌, count_by, length, arith, sym, ap, ◌∙◌, subst, length-append}
-use Rattle.std.proofs.Math.Seq.{take-length}
-use Rattle.cn_lists.proofs.Common.{FloorValue, Grant, Network, Start, StoodInState, View, on, tokens_in}
-use Rattle.cn_floor.proofs.CallerLemmas.{nobody-in, nobody-there}
-use Rattle.cn_lists.specs.Listed.{by_one_entry, gone_too}
+use Rattle.cn_lists.proofs.Common.{◌≡◌, ℕ, ◌+◌, ◌==◌, List, ◌++◌, count_by, length, arith, sym, ap, ◌∙◌, subst, length-append, take-length, FloorValue, Grant, Network, Start, StoodInState, View, on, tokens_in, nobody-in, nobody-there, by_one_entry, gone_too}
 use Rattle.cn_lists.proofs.Groups.{placed-many}
 use Rattle.cn_lists.proofs.CameIn.{all-clients, came-once, nobody-stands}
 use Rattle.cn_lists.proofs.Counted.{together-deep, together-steps}

@@ -1,8 +1,5 @@
-use Rattle.std.proofs.Common.{rules, ◌≡◌, ℕ, List, [], ◌++◌, length, replicate, arith, sym, ap, ◌∙◌, subst}
-use Rattle.cn_lists.proofs.Common.{FloorValue, Grant, Start, View, length-replicate}
+use Rattle.cn_lists.proofs.Common.{rules, ◌≡◌, ℕ, List, [], ◌++◌, length, replicate, arith, sym, ap, ◌∙◌, subst, FloorValue, Grant, Start, View, length-replicate, HaveWalked, AreWritten, TakerValue}
 use Rattle.cn_lists.specs.InsideTaker.{taker_of}
-use Rattle.cn_lists.specs.Listed.{HaveWalked}
-use Rattle.cn_lists.specs.Taking.{AreWritten, TakerValue}
 use Rattle.cn_lists.proofs.Taken.{written-all}
 use Rattle.cn_lists.proofs.taking.take_many.Goals as goal
 

@@ -1,5 +1,4 @@
-use Rattle.std.proofs.Common.{ℕ, ◌∙◌, arith}
-use Rattle.cn_wiring.proofs.CallerLemmas.{all_ok}
+use Rattle.cn_periodic.proofs.Common.{ℕ, ◌∙◌, arith, all_ok}
 use Rattle.cn_periodic.proofs.BlockParts.{InnerBlocks, first-asked, gives_all, gives_one, inner-blocks, last-asked, orders-all, orders-one, second-asked, two-asked}
 use Rattle.cn_periodic.proofs.blocks.+block.Goals as goal
 use Rattle.cn_periodic.proofs.blocks.+block.Goals.{In_ok-z2}

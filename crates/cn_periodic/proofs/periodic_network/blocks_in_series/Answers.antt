@@ -1,4 +1,4 @@
-use Rattle.std.proofs.Common.{arith}
+use Rattle.cn_periodic.proofs.Common.{arith}
 use Rattle.cn_periodic.proofs.Series.{next-asked, series-all, series-more, series-none, series-ordered}
 use Rattle.cn_periodic.proofs.periodic_network.blocks_in_series.Goals as goal
 

@@ -1,12 +1,6 @@
-use Rattle.std.proofs.Common.{◌≡◌, ◌∙◌, map, ap, rules}
-use Rattle.std.specs.List.{range_with_len}
+use Rattle.cn_periodic.proofs.Common.{◌≡◌, ◌∙◌, map, ap, rules, range_with_len, same-level, Drawn, drawn, drawn-built, drawn-counts, entries-row, flows-row, outputs-count, periodic_plan, BuildsPeriodic, periodic_balancers, periodic_depth}
 use Rattle.cn_spec.specs.Networks as net
 use Rattle.cn_tables.specs.declared.kind.Kind.TheVariants.{Periodic}
-use Rattle.cn_spec.proofs.CallerLemmas.{same-level}
-use Rattle.cn_wiring.proofs.CallerLemmas.{Drawn, drawn, drawn-built, drawn-counts, entries-row, flows-row, outputs-count}
-use Rattle.cn_periodic.specs.Order.{periodic_plan}
-use Rattle.cn_periodic.specs.Parts.{BuildsPeriodic}
-use Rattle.cn_periodic.specs.Sizes.{periodic_balancers, periodic_depth}
 use Rattle.cn_periodic.proofs.Whole.{place_for-all, room_for-all}
 use Rattle.cn_periodic.proofs.periodic_network.periodic.Goals as goal
 use Rattle.cn_periodic.proofs.periodic_network.periodic.Goals.{In_ok-exits}

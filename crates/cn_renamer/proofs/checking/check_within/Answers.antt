@@ -1,14 +1,8 @@
-use Rattle.std.specs.Prelude.{Bool, List, Option, IfSome, ℕ}
-use Rattle.std.proofs.Common.{◌≡◌, ◌∙◌, ap, refl}
-use Rattle.std.proofs.lemmas.Result.{err_from_is_err_and}
-use Rattle.cn_texts.proofs.CallerLemmas.{known-map, written-map}
-use Rattle.cn_texts.specs.Reading.Bounds.{bounds_of}
-use Rattle.cn_texts.specs.Reading.Records.{records_of}
+use Rattle.cn_renamer.proofs.Common.{Bool, List, Option, IfSome, ℕ, ◌≡◌, ◌∙◌, ap, refl, err_from_is_err_and, known-map, written-map, bounds_of, records_of, until_output}
 use Rattle.cn_texts.specs.Grants.Printed.{IsNamedList}
 use Rattle.cn_texts.specs.Grants.TightText.{tight_text}
 use Rattle.cn_texts.specs.declared.grants.epochs.NamedEpoch.{NamedEpoch}
 use Rattle.cn_renamer.specs.Check.{IsCheckOfKnown, IsTightTextOf, fault_of_output, until_check}
-use Rattle.cn_renamer.specs.Outputs.{until_output}
 use Rattle.cn_renamer.specs.declared.output_fault.OutputFault.{OutputFault}
 use Rattle.cn_renamer.specs.declared.output_fault.OutputFault.TheVariants.{Memory, Write}
 use Rattle.cn_renamer.proofs.checking.check_within.Goals as goal

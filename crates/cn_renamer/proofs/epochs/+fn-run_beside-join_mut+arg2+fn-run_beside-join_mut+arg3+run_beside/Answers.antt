@@ -1,7 +1,4 @@
-use Rattle.std.proofs.Common.{rules, ◌≡◌, ◌+◌, List, ℕ, arith, drop, length, subst, sym, take}
-use Rattle.std.proofs.lemmas.List.Sums.{sum_by-take-le}
-use Rattle.cn_texts.specs.declared.reading.batch.BatchEpoch.{BatchEpoch}
-use Rattle.cn_renamer.specs.Running.{MayRunAll}
+use Rattle.cn_renamer.proofs.Common.{rules, ◌≡◌, ◌+◌, List, ℕ, arith, drop, length, subst, sym, take, sum_by-take-le, BatchEpoch, MayRunAll}
 use Rattle.cn_renamer.proofs.Floors.{beside}
 use Rattle.cn_renamer.proofs.Running.{may-back, may-front, some-client}
 use Rattle.cn_renamer.proofs.epochs.+fn-run_beside-join_mut+arg2+fn-run_beside-join_mut+arg3+run_beside.Goals as goal

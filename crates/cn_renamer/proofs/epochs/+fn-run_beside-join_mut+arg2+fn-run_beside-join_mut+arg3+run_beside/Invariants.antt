@@ -1,4 +1,4 @@
-use Rattle.std.proofs.Common.{◌+◌, ◌*◌, length}
+use Rattle.cn_renamer.proofs.Common.{◌+◌, ◌*◌, length}
 use Rattle.cn_renamer.proofs.epochs.+fn-run_beside-join_mut+arg2+fn-run_beside-join_mut+arg3+run_beside.Given as goal
 
 abbrev pub decreases-join_mut+arg2 : goal.decreases-join_mut+arg2

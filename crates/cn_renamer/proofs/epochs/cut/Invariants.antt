@@ -1,5 +1,4 @@
-use Rattle.std.proofs.Common.{◌≡◌, ◌-◌, ◌<◌, ℕ, length, take}
-use Rattle.cn_texts.specs.Reading.Batch.{clients_of_epochs}
+use Rattle.cn_renamer.proofs.Common.{◌≡◌, ◌-◌, ◌<◌, ℕ, length, take, clients_of_epochs}
 use Rattle.cn_renamer.proofs.epochs.cut.Given as goal
 
 abbrev pub invariant-loop-before : goal.invariant-loop-before

@@ -1,17 +1,6 @@
-use Rattle.std.proofs.Common.{rules, ◌≡◌, ◌≤◌, ◌+◌, ◌-◌, ◌∷◌, ◌++◌, [], ℕ, List, ap, arith, drop, length, subst, sym, take, true, ◌∙◌}
-use Rattle.std.proofs.lemmas.Grind.{common_steps}
-use Rattle.std.proofs.lemmas.List.{length-drop, length-take-le}
-use Rattle.std.proofs.lemmas.List.Sums.{sum_by_push, sum_by-take-le}
+use Rattle.cn_renamer.proofs.Common.{rules, ◌≡◌, ◌≤◌, ◌+◌, ◌-◌, ◌∷◌, ◌++◌, [], ℕ, List, ap, arith, drop, length, subst, sym, take, true, ◌∙◌, common_steps, length-drop, length-take-le, sum_by_push, sum_by-take-le, Network, client_count, QuietValue, RunnerValue, bounds_of, MayCome, clients_of_epochs, BatchEpoch, HaveWalked, runner_after}
 use Rattle.std.proofs.lemmas.Slice.{take-put_mid}
 use borrow.Rule.Slice.PartMut.{put_mid, same_len_mid}
-use Rattle.cn_tables.specs.Network.{Network}
-use Rattle.cn_floor.specs.Carried.{client_count}
-use Rattle.cn_floor.specs.Ends.{QuietValue}
-use Rattle.cn_walk.specs.Runner.{RunnerValue}
-use Rattle.cn_texts.specs.Reading.Bounds.{bounds_of}
-use Rattle.cn_texts.specs.Reading.Batch.{MayCome, clients_of_epochs}
-use Rattle.cn_texts.specs.declared.reading.batch.BatchEpoch.{BatchEpoch}
-use Rattle.cn_renamer.specs.Floors.{HaveWalked, runner_after}
 use Rattle.cn_renamer.proofs.Floors.{after-both, few-came, many-held, none-walked, same-network, walked-both}
 use Rattle.cn_renamer.proofs.epochs.run_in_turn.Goals as goal
 

@@ -1,6 +1,4 @@
-use Rattle.std.proofs.Common.{◌≡◌, length, take}
-use Rattle.cn_texts.specs.Reading.Batch.{clients_of_epochs}
-use Rattle.cn_renamer.specs.Floors.{HaveWalked, runner_after}
+use Rattle.cn_renamer.proofs.Common.{◌≡◌, length, take, clients_of_epochs, HaveWalked, runner_after}
 use Rattle.cn_renamer.proofs.epochs.run_in_turn.Given as goal
 
 abbrev pub invariant-loop-epoch : goal.invariant-loop-epoch

@@ -1,11 +1,4 @@
-use Rattle.std.proofs.Common.{◌≡◌, [], ◌∷◌, List, ap, length, subst, sym, ◌∙◌}
-use Rattle.std.specs.Prelude.{IfOk}
-use Rattle.cn_ledger.specs.declared.client.Client.{Client}
-use Rattle.cn_walk.specs.Runner.{next_runner}
-use Rattle.cn_walk.specs.Runs.{IsRunAfter}
-use Rattle.cn_walk.specs.Walks.{AreInOrder}
-use Rattle.cn_floor.specs.Ends.{QuietValue}
-use Rattle.cn_renamer.specs.Floors.{HaveWalked, runner_after}
+use Rattle.cn_renamer.proofs.Common.{◌≡◌, [], ◌∷◌, List, ap, length, subst, sym, ◌∙◌, IfOk, Client, next_runner, IsRunAfter, AreInOrder, QuietValue, HaveWalked, runner_after}
 use Rattle.cn_renamer.proofs.Floors.{one-walked}
 use Rattle.cn_renamer.proofs.Served.{held-in-order}
 use Rattle.cn_renamer.proofs.epochs.serve_epoch.Goals as goal

@@ -1,4 +1,4 @@
-use Rattle.std.proofs.Common.{rules}
+use Rattle.cn_renamer.proofs.Common.{rules}
 use Rattle.cn_renamer.proofs.fault.end.Goals as goal
 
 pub returns-in-Ok-clause-status : goal.returns-in-Ok-clause-status

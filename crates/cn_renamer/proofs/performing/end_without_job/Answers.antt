@@ -1,8 +1,4 @@
-use Rattle.std.specs.Prelude.{string_bytes}
-use Rattle.std.proofs.Common.{◌≡◌, ◌∙◌, rules}
-use Rattle.std.proofs.lemmas.Result.{err_from_is_err_and}
-use Rattle.cn_texts.proofs.CallerLemmas.{written-map}
-use Rattle.cn_renamer.specs.Outputs.{until_output}
+use Rattle.cn_renamer.proofs.Common.{string_bytes, ◌≡◌, ◌∙◌, rules, err_from_is_err_and, written-map, until_output}
 use Rattle.cn_renamer.proofs.performing.end_without_job.Goals as goal
 
 pub returns-in_err-write_text-in-Help-clause-written : goal.returns-in_err-write_text-in-Help-clause-written

@@ -1,7 +1,4 @@
-use Rattle.std.proofs.Common.{◌∙◌}
-use Rattle.std.proofs.lemmas.Result.{err_from_is_err_and}
-use Rattle.cn_texts.specs.Writing.Written.{Whole}
-use Rattle.cn_renamer.specs.Serve.{until_serve}
+use Rattle.cn_renamer.proofs.Common.{◌∙◌, err_from_is_err_and, Whole, until_serve}
 use Rattle.cn_renamer.proofs.Asked.{run-as-asked, walkers-as-asked}
 use Rattle.cn_renamer.proofs.performing.perform.Goals as goal
 

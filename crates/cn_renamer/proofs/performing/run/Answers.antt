@@ -1,5 +1,4 @@
-use Rattle.std.specs.Prelude.{Ok, Err, map, string_bytes}
-use Rattle.std.proofs.Common.{rules}
+use Rattle.cn_renamer.proofs.Common.{Ok, Err, map, string_bytes, rules}
 use Rattle.cn_renamer.proofs.Built.{is-built}
 use Rattle.cn_renamer.proofs.performing.run.Goals as goal
 

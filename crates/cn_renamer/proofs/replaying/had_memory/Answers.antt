@@ -1,4 +1,4 @@
-use Rattle.std.proofs.Common.{rules}
+use Rattle.cn_renamer.proofs.Common.{rules}
 use Rattle.cn_renamer.proofs.replaying.had_memory.Goals as goal
 
 pub returns : goal.returns

@@ -1,5 +1,4 @@
-use Rattle.std.proofs.Common.{◌≡◌, ◌∙◌, rules, sym}
-use Rattle.cn_ledger.specs.Answers.{HadMemory}
+use Rattle.cn_renamer.proofs.Common.{◌≡◌, ◌∙◌, rules, sym, HadMemory}
 use Rattle.cn_renamer.proofs.Kept.{is-kept}
 use Rattle.cn_renamer.proofs.replaying.kept_answer.Goals as goal
 

@@ -1,10 +1,5 @@
-use Rattle.std.proofs.Common.{◌≡◌, ◌++◌, ◌∷◌, ◌∙◌, [], append-nil, append_assoc, arith, drop, refl, rules}
-use Rattle.std.proofs.lemmas.Grind.{common_steps}
-use Rattle.std.proofs.lemmas.List.Elements.{All-push, AllZip-push}
-use Rattle.cn_ledger.specs.Answers.{HadMemory}
-use Rattle.cn_ledger.specs.declared.command.Command.TheVariants.{Enter}
+use Rattle.cn_renamer.proofs.Common.{◌≡◌, ◌++◌, ◌∷◌, ◌∙◌, [], append-nil, append_assoc, arith, drop, refl, rules, common_steps, All-push, AllZip-push, HadMemory, Enter, IsKept}
 use Rattle.cn_epoch.proofs.CallerLemmas.{runs-at, runs-none}
-use Rattle.cn_renamer.specs.Replay.{IsKept}
 use Rattle.cn_renamer.proofs.replaying.kept_answers.Goals as goal
 
 pub loop-command-init : goal.loop-command-init

@@ -1,10 +1,4 @@
-use Rattle.std.proofs.Common.{◌≡◌, ◌+◌, ◌≤◌, ◌++◌, List, false, drop, length, vec_capacity, vec_len}
-use Rattle.std.specs.List.{All, AllZip}
-use Rattle.cn_ledger.specs.Answers.{HadMemory}
-use Rattle.cn_ledger.specs.declared.answer.Answer.{Answer}
-use Rattle.cn_epoch.specs.Calls.{RunsCommandsByHistory}
-use Rattle.cn_epoch.specs.History.{Epochs}
-use Rattle.cn_renamer.specs.Replay.{IsKept}
+use Rattle.cn_renamer.proofs.Common.{◌≡◌, ◌+◌, ◌≤◌, ◌++◌, List, false, drop, length, vec_capacity, vec_len, All, AllZip, HadMemory, Answer, RunsCommandsByHistory, Epochs, IsKept}
 use Rattle.cn_renamer.proofs.replaying.kept_answers.Given as goal
 
 -- a run of what is left completes the run

@@ -1,7 +1,4 @@
-use Rattle.cn_texts.proofs.CallerLemmas.{written-map}
-use Rattle.cn_texts.specs.Writing.Written.{written_by}
-use Rattle.cn_renamer.specs.Outputs.{until_output}
-use Rattle.cn_renamer.specs.Replay.{IsReplayOfCommands}
+use Rattle.cn_renamer.proofs.Common.{written-map, written_by, until_output, IsReplayOfCommands}
 use Rattle.cn_renamer.proofs.replaying.replay_commands.Goals as goal
 
 pub returns : goal.returns

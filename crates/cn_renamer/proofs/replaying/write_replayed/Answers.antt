@@ -1,9 +1,4 @@
-use Rattle.std.proofs.Common.{ap}
-use Rattle.std.proofs.lemmas.Result.{err_from_is_err_and}
-use Rattle.cn_texts.proofs.CallerLemmas.{written-map}
-use Rattle.cn_texts.specs.Writing.Written.{First}
-use Rattle.cn_epoch.specs.History.{Epochs}
-use Rattle.cn_renamer.specs.Replay.{IsReplayText}
+use Rattle.cn_renamer.proofs.Common.{ap, err_from_is_err_and, written-map, First, Epochs, IsReplayText}
 use Rattle.cn_renamer.proofs.Kept.{all-showable, replay-is}
 use Rattle.cn_renamer.proofs.replaying.write_replayed.Goals as goal
 

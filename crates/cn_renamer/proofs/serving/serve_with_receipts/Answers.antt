@@ -1,15 +1,4 @@
-use Rattle.std.proofs.Common.{rules, ◌≡◌, List, ℕ}
-use Rattle.std.proofs.lemmas.Result.{err_from_is_err_and}
-use Rattle.cn_tables.specs.Network.{Network}
-use Rattle.cn_ledger.specs.declared.record.EpochRecord.{EpochRecord}
-use Rattle.cn_texts.specs.Writing.EpochRecords.{AreRecordsOf}
-use Rattle.cn_texts.specs.Writing.Written.{First, HasWritten, Whole}
-use Rattle.cn_texts.specs.declared.reading.batch.BatchEpoch.{BatchEpoch}
-use Rattle.cn_floor.specs.Ends.{QuietValue}
-use Rattle.cn_nets.specs.Net.{IsNetworkOf}
-use Rattle.cn_renamer.specs.Floors.{HaveWalked, IsRunOnFloors, new_runner}
-use Rattle.cn_renamer.specs.Headline.{IsRunInOrder, IsRunInOrderOfKnown, IsRunOf, IsRunOfKnown, text_in}
-use Rattle.cn_renamer.specs.Running.{crew_of}
+use Rattle.cn_renamer.proofs.Common.{rules, ◌≡◌, List, ℕ, err_from_is_err_and, Network, EpochRecord, AreRecordsOf, First, HasWritten, Whole, BatchEpoch, QuietValue, IsNetworkOf, HaveWalked, IsRunOnFloors, new_runner, IsRunInOrder, IsRunInOrderOfKnown, IsRunOf, IsRunOfKnown, text_in, crew_of}
 use Rattle.cn_renamer.proofs.Refused.{none-written, refused-by}
 use Rattle.cn_renamer.proofs.Running.{may-run, run-written}
 use Rattle.cn_renamer.proofs.serving.serve_with_receipts.Goals as goal

@@ -1,6 +1,4 @@
-use Rattle.std.proofs.lemmas.Result.{err_from_is_err_and}
-use Rattle.cn_texts.proofs.CallerLemmas.{written-map}
-use Rattle.cn_texts.specs.Writing.Written.{First}
+use Rattle.cn_renamer.proofs.Common.{err_from_is_err_and, written-map, First}
 use Rattle.cn_renamer.specs.Show.{IsWiringOf}
 use Rattle.cn_renamer.proofs.showing.show.Goals as goal
 

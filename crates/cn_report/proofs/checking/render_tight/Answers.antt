@@ -1,8 +1,4 @@
-use Rattle.cn_report.proofs.Common.{arith, map}
-use Rattle.cn_report.specs.Callers.{plain_tight}
-use Rattle.cn_texts.specs.Grants.TightText.{tight_text}
-use Rattle.cn_texts.proofs.CallerLemmas.{put-all, put-same, put-then, text-held}
-use Rattle.cn_texts.proofs.CallerLemmas.{end-same}
+use Rattle.cn_report.proofs.Common.{arith, map, plain_tight, tight_text, put-all, put-same, put-then, text-held, end-same}
 use Rattle.cn_report.proofs.checking.render_tight.Goals as goal
 
 pub returns-in-Ok : goal.returns-in-Ok

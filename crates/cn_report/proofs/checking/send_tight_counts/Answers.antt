@@ -1,5 +1,4 @@
-use Rattle.cn_report.proofs.Common.{◌∷◌, ℕ, decimal, get_or, refl}
-use Rattle.cn_texts.proofs.CallerLemmas.{put-last, put-next, put-none}
+use Rattle.cn_report.proofs.Common.{◌∷◌, ℕ, decimal, get_or, refl, put-last, put-next, put-none}
 use Rattle.cn_report.proofs.checking.send_tight_counts.Goals as goal
 
 pub loop-count-init : goal.loop-count-init

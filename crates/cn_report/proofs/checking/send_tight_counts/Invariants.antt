@@ -1,5 +1,4 @@
-use Rattle.cn_report.proofs.Common.{take, Puts}
-use Rattle.cn_texts.specs.Grants.TightText.{tight_counts}
+use Rattle.cn_report.proofs.Common.{take, Puts, tight_counts}
 use Rattle.cn_report.proofs.checking.send_tight_counts.Given as goal
 
 abbrev pub invariant-loop-count : goal.invariant-loop-count

@@ -1,5 +1,4 @@
-use Rattle.cn_texts.proofs.CallerLemmas.{put-same, put-then}
-use Rattle.cn_texts.proofs.CallerLemmas.{line-whole}
+use Rattle.cn_report.proofs.Common.{put-same, put-then, line-whole}
 use Rattle.cn_report.proofs.checking.send_tight_epoch.Goals as goal
 
 pub returns : goal.returns

@@ -1,7 +1,4 @@
-use Rattle.cn_report.proofs.Common.{◌∙◌, ap, arith, map, sym, get_or-map, length-map}
-use Rattle.cn_report.specs.Callers.{plain_tight}
-use Rattle.cn_texts.specs.Grants.TightText.{tight_line}
-use Rattle.cn_texts.proofs.CallerLemmas.{put-last, put-next, put-none}
+use Rattle.cn_report.proofs.Common.{◌∙◌, ap, arith, map, sym, get_or-map, length-map, plain_tight, tight_line, put-last, put-next, put-none}
 use Rattle.cn_report.proofs.checking.send_tight_epochs.Goals as goal
 
 pub loop-epoch-init : goal.loop-epoch-init

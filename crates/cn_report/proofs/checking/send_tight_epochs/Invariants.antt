@@ -1,6 +1,4 @@
-use Rattle.cn_report.proofs.Common.{map, take, flat_map, Puts}
-use Rattle.cn_report.specs.Callers.{plain_tight}
-use Rattle.cn_texts.specs.Grants.TightText.{tight_line}
+use Rattle.cn_report.proofs.Common.{map, take, flat_map, Puts, plain_tight, tight_line}
 use Rattle.cn_report.proofs.checking.send_tight_epochs.Given as goal
 
 abbrev pub invariant-loop-epoch : goal.invariant-loop-epoch

@@ -1,6 +1,4 @@
-use Rattle.cn_report.proofs.Common.{◌≡◌, ◌∙◌, ◌∷◌, ◌++◌, [], true, arith, rules, sym, share}
-use Rattle.std.specs.Result.{is_ok}
-use Rattle.std.proofs.lemmas.List.FromFn.{map-range_with_len_more}
+use Rattle.cn_report.proofs.Common.{◌≡◌, ◌∙◌, ◌∷◌, ◌++◌, [], true, arith, rules, sym, share, is_ok, map-range_with_len_more}
 use Rattle.cn_report.proofs.checking.shares.Goals as goal
 
 pub loop-exit-preserved : goal.loop-exit-preserved

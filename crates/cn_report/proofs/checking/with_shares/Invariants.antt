@@ -1,6 +1,4 @@
-use Rattle.cn_report.proofs.Common.{◌≡◌, map, take}
-use Rattle.cn_report.specs.Callers.{plain_tight}
-use Rattle.cn_texts.specs.Grants.Printed.{with_shares}
+use Rattle.cn_report.proofs.Common.{◌≡◌, map, take, plain_tight, with_shares}
 use Rattle.cn_report.proofs.checking.with_shares.Given as goal
 
 abbrev pub invariant-loop-epoch : goal.invariant-loop-epoch

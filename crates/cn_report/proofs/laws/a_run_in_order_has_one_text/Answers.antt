@@ -1,6 +1,4 @@
-use Rattle.cn_texts.specs.Reading.Bounds.{bounds_of}
-use Rattle.cn_texts.specs.Reading.Records.{records_of}
-use Rattle.cn_nets.specs.Net.{entries_of}
+use Rattle.cn_report.proofs.Common.{bounds_of, records_of, entries_of}
 use Rattle.cn_report.proofs.InOrder.{one-text-in-order}
 use Rattle.cn_report.proofs.laws.a_run_in_order_has_one_text.Goals as goal
 

@@ -1,6 +1,4 @@
-use Rattle.cn_report.proofs.Common.{drop}
-use Rattle.cn_texts.specs.Reading.Arrival.{arrivals_in}
-use Rattle.cn_texts.specs.Reading.Heading.{heading_in}
+use Rattle.cn_report.proofs.Common.{drop, arrivals_in, heading_in}
 use Rattle.cn_report.proofs.UniqueBatch.{unique}
 use Rattle.cn_report.proofs.laws.batch_is_one.Goals as goal
 

@@ -1,5 +1,4 @@
-use Rattle.cn_texts.specs.Grants.ListText.{grants_text}
-use Rattle.cn_texts.proofs.CallerLemmas.{put-all, put-then, text-held}
+use Rattle.cn_report.proofs.Common.{grants_text, put-all, put-then, text-held}
 use Rattle.cn_report.proofs.rendering.render_grants.Goals as goal
 
 pub returns-in-Ok : goal.returns-in-Ok

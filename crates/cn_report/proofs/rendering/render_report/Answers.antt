@@ -1,5 +1,4 @@
-use Rattle.cn_texts.specs.Writing.Report.{report_text}
-use Rattle.cn_texts.proofs.CallerLemmas.{put-all, put-then, text-held}
+use Rattle.cn_report.proofs.Common.{report_text, put-all, put-then, text-held}
 use Rattle.cn_report.proofs.rendering.render_report.Goals as goal
 
 pub send_whole_records-requires : goal.send_whole_records-requires

@@ -1,8 +1,6 @@
-use Rattle.cn_report.proofs.Common.{subst, sym, All-get_or}
-use Rattle.cn_texts.proofs.CallerLemmas.{put-last, put-next, put-none}
+use Rattle.cn_report.proofs.Common.{subst, sym, All-get_or, put-last, put-next, put-none, HasHolders}
 use Rattle.cn_report.proofs.SameLines.{grants-of}
 use Rattle.cn_report.proofs.rendering.send_names_of.Goals as goal
-use Rattle.cn_report.specs.Callers.{HasHolders}
 
 pub loop-epoch-init : goal.loop-epoch-init
 loop-epoch-init g c = put-none

@@ -1,4 +1,4 @@
-use Rattle.cn_texts.proofs.CallerLemmas.{put-then}
+use Rattle.cn_report.proofs.Common.{put-then}
 use Rattle.cn_report.proofs.rendering.send_whole_record.Goals as goal
 
 pub returns : goal.returns

@@ -1,8 +1,5 @@
-use Rattle.cn_report.proofs.Common.{All-get_or}
-use Rattle.cn_texts.specs.Writing.Report.{epoch_lines}
-use Rattle.cn_texts.proofs.CallerLemmas.{put-last, put-next, put-none}
+use Rattle.cn_report.proofs.Common.{All-get_or, epoch_lines, put-last, put-next, put-none, IsWholeRecord}
 use Rattle.cn_report.proofs.rendering.send_whole_records.Goals as goal
-use Rattle.cn_report.specs.Callers.{IsWholeRecord}
 
 pub send_whole_record-requires : goal.send_whole_record-requires
 send_whole_record-requires g c =

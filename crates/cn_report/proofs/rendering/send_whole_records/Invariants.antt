@@ -1,5 +1,4 @@
-use Rattle.cn_report.proofs.Common.{take, flat_map, Puts}
-use Rattle.cn_texts.specs.Writing.Report.{epoch_lines}
+use Rattle.cn_report.proofs.Common.{take, flat_map, Puts, epoch_lines}
 use Rattle.cn_report.proofs.rendering.send_whole_records.Given as goal
 
 abbrev pub invariant-loop-epoch : goal.invariant-loop-epoch

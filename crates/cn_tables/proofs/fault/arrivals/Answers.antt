@@ -1,6 +1,4 @@
-use Rattle.std.proofs.Common.{◌<◌, length, refl, arith}
-use Rattle.std.proofs.lemmas.List.{get_or_read}
-use Rattle.cn_tables.specs.declared.end.End.TheVariants.{Balancer, Exit}
+use Rattle.cn_tables.proofs.Common.{◌<◌, length, refl, arith, get_or_read, Balancer, Exit}
 use Rattle.cn_tables.proofs.Arrivals.{counts-elsewhere, counts-fit, counts-here, counts-none}
 use Rattle.cn_tables.proofs.fault.arrivals.Goals as goal
 use Rattle.cn_tables.proofs.fault.arrivals.Goals.{in-Balancer, in-Exit}

@@ -1,6 +1,4 @@
-use Rattle.std.proofs.Common.{ℕ, ◌<◌}
-use Rattle.cn_tables.specs.Table.{Table}
-use Rattle.cn_tables.specs.Faults.{EndStandsAt}
+use Rattle.cn_tables.proofs.Common.{ℕ, ◌<◌, Table, EndStandsAt}
 use Rattle.cn_tables.proofs.fault.find_no_such_end.Given as goal
 
 abbrev pub invariant-loop-u : goal.invariant-loop-u

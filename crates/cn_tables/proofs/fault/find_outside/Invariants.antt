@@ -1,5 +1,4 @@
-use Rattle.std.proofs.Common.{ℕ, ◌<◌, slice_index}
-use Rattle.cn_tables.specs.Faults.{IsWithin}
+use Rattle.cn_tables.proofs.Common.{ℕ, ◌<◌, slice_index, IsWithin}
 use Rattle.cn_tables.proofs.fault.find_outside.Given as goal
 
 abbrev pub invariant-loop-place : goal.invariant-loop-place

@@ -1,7 +1,5 @@
-use Rattle.std.proofs.Common.{ap, subst}
+use Rattle.cn_walk.proofs.Common.{ap, subst, WordsValue, words_before, IsRunAfter}
 use Rattle.std.proofs.lemmas.Result.{IfOk-weaker}
-use Rattle.cn_floor.specs.Carried.{WordsValue, words_before}
-use Rattle.cn_walk.specs.Runs.{IsRunAfter}
 use Rattle.cn_walk.proofs.Runs.{from-zero}
 use Rattle.cn_walk.proofs.callers.run_epoch.Goals as goal
 

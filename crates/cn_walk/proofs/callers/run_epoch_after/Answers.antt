@@ -1,7 +1,4 @@
-use Rattle.std.proofs.Common.{ap, subst}
-use Rattle.std.specs.Prelude.{IfOk}
-use Rattle.cn_floor.specs.Carried.{WordsValue, words_before}
-use Rattle.cn_walk.specs.Runs.{IsRunAfter}
+use Rattle.cn_walk.proofs.Common.{ap, subst, IfOk, WordsValue, words_before, IsRunAfter}
 use Rattle.cn_walk.proofs.callers.run_epoch_after.Goals as goal
 
 pub returns-clause-run : goal.returns-clause-run

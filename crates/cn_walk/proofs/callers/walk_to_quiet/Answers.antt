@@ -1,4 +1,4 @@
-use Rattle.std.proofs.Common.{rules}
+use Rattle.cn_walk.proofs.Common.{rules}
 use Rattle.cn_walk.proofs.callers.walk_to_quiet.Goals as goal
 
 pub walk_floor-requires-clause-lane : goal.walk_floor-requires-clause-lane

@@ -1,10 +1,4 @@
-use Rattle.std.proofs.Common.{◌≡◌, ℕ, ◌-◌, List, length, sym, ap, ◌∙◌, subst}
-use Rattle.std.specs.Prelude.{IfOk}
-use Rattle.cn_ledger.specs.declared.client.Client.{Client}
-use Rattle.cn_walk.specs.declared.forking.Lanes.{Lanes}
-use Rattle.cn_walk.specs.Parts.{AreReady, IsOne, IsReady, together, whole}
-use Rattle.cn_floor.specs.Lane.{FloorValue, LaneValue}
-use Rattle.cn_walk.specs.Walks.{WalksAll}
+use Rattle.cn_walk.proofs.Common.{◌≡◌, ℕ, ◌-◌, List, length, sym, ap, ◌∙◌, subst, IfOk, Client, Lanes, AreReady, IsOne, IsReady, together, whole, FloorValue, LaneValue, WalksAll}
 use Rattle.cn_walk.proofs.Parts.{both-walked, whole-ready}
 use Rattle.cn_walk.proofs.forking.+fn-walk_lanes-join_once+arg2+fn-walk_lanes-join_once+arg3+walk_lanes.Goals as goal
 

@@ -1,4 +1,4 @@
-use Rattle.std.proofs.Common.{◌+◌, ◌*◌}
+use Rattle.cn_walk.proofs.Common.{◌+◌, ◌*◌}
 use Rattle.cn_walk.proofs.Parts.{nodes}
 use Rattle.cn_walk.proofs.forking.+fn-walk_lanes-join_once+arg2+fn-walk_lanes-join_once+arg3+walk_lanes.Given as goal
 

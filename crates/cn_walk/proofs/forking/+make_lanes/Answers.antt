@@ -1,8 +1,4 @@
-use Rattle.std.proofs.Common.{rules, ◌≡◌, ◌+◌, ◌-◌, ◌/◌, ◌<◌, ◌≤◌, arith, ℕ, max, min, refl, ap, ◌∙◌, subst}
-use Rattle.std.specs.Prelude.{IfSome}
-use Rattle.cn_walk.specs.declared.forking.Lanes.{Lanes}
-use Rattle.cn_floor.specs.Lane.{LaneValue}
-use Rattle.cn_walk.specs.Parts.{AreOf, AreReady, IsPair, SpareAtMost, first_position}
+use Rattle.cn_walk.proofs.Common.{rules, ◌≡◌, ◌+◌, ◌-◌, ◌/◌, ◌<◌, ◌≤◌, arith, ℕ, max, min, refl, ap, ◌∙◌, subst, IfSome, Lanes, LaneValue, AreOf, AreReady, IsPair, SpareAtMost, first_position}
 use Rattle.cn_walk.proofs.Parts.{first-later, left-nothing, none_after, none_before, pair-ready, reserved-nothing, right-nothing, some_so}
 use Rattle.cn_walk.proofs.forking.+make_lanes.Goals as goal
 use Rattle.cn_walk.proofs.forking.+make_lanes.Goals.{then-own-eq0-via-then-own-eq0, then-own-eq0-via-else-own-eq0+then-to-from-eq1}

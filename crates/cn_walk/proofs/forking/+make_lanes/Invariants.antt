@@ -1,4 +1,4 @@
-use Rattle.std.proofs.Common.{◌-◌}
+use Rattle.cn_walk.proofs.Common.{◌-◌}
 use Rattle.cn_walk.proofs.forking.+make_lanes.Given as goal
 
 abbrev pub decreases-make_lanes : goal.decreases-make_lanes

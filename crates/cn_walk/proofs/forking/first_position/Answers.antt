@@ -1,7 +1,5 @@
-use Rattle.std.proofs.Common.{◌≡◌, ap₂, arith, subst, sym}
+use Rattle.cn_walk.proofs.Common.{◌≡◌, ap₂, arith, subst, sym, div-le_of_le-mul, mul-le-mul, mul-le-mul_right, first_position}
 use Prim.Native.Nat.{ℕ, ◌*◌, ◌/◌, ◌≤◌}
-use Rattle.std.proofs.Math.Nat.{div-le_of_le-mul, mul-le-mul, mul-le-mul_right}
-use Rattle.cn_walk.specs.Parts.{first_position}
 use Rattle.cn_walk.proofs.forking.first_position.Goals as goal
 
 pub overflow_mul-result : goal.overflow_mul-result

@@ -1,7 +1,4 @@
-use Rattle.std.proofs.Common.{rules, ◌≡◌, ◌<◌, All, ℕ, List, get_or, ◌∙◌, subst}
-use Rattle.std.proofs.lemmas.List.{get_or_default, take_all}
-use Rattle.std.proofs.lemmas.List.Elements.{All-more}
-use Rattle.cn_ledger.specs.declared.client.Client.{Client}
+use Rattle.cn_walk.proofs.Common.{rules, ◌≡◌, ◌<◌, All, ℕ, List, get_or, ◌∙◌, subst, get_or_default, take_all, All-more, Client}
 use Rattle.cn_walk.proofs.running.may_run.Goals as goal
 
 pub loop-position-preserved : goal.loop-position-preserved

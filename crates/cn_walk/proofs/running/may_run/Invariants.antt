@@ -1,4 +1,4 @@
-use Rattle.std.proofs.Common.{◌<◌, All, take}
+use Rattle.cn_walk.proofs.Common.{◌<◌, All, take}
 use Rattle.cn_walk.proofs.running.may_run.Given as goal
 
 abbrev pub invariant-loop-position : goal.invariant-loop-position

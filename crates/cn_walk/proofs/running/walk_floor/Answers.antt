@@ -1,9 +1,5 @@
-use Rattle.std.proofs.Common.{rules, ℕ, arith, length, subst, sym}
+use Rattle.cn_walk.proofs.Common.{rules, ℕ, arith, length, subst, sym, IsCloseRefused, AreReady, whole, View, AreInOrder}
 use Rattle.cn_floor.specs.declared.floor.closing.CloseFault.{CloseFault}
-use Rattle.cn_floor.specs.Closing.{IsCloseRefused}
-use Rattle.cn_walk.specs.Parts.{AreReady, whole}
-use Rattle.cn_floor.specs.declared.view.View.{View}
-use Rattle.cn_walk.specs.Walks.{AreInOrder}
 use Rattle.cn_walk.proofs.Parts.{one-worker, whole-ready}
 use Rattle.cn_walk.proofs.Runs.{all-first, all-in-order, all-theirs, new-nothing, new-sole, none-missing, ran}
 use Rattle.cn_walk.proofs.running.walk_floor.Goals as goal

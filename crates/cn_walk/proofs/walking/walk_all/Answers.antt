@@ -1,7 +1,4 @@
-use Rattle.std.proofs.Common.{rules, ◌≡◌, ◌<◌, [], All, List, sym, ◌∙◌, subst, arith}
-use Rattle.std.proofs.lemmas.List.Elements.{All-drop}
-use Rattle.cn_ledger.specs.declared.client.Client.{Client}
-use Rattle.cn_walk.specs.Walks.{Walks}
+use Rattle.cn_walk.proofs.Common.{rules, ◌≡◌, ◌<◌, [], All, List, sym, ◌∙◌, subst, arith, All-drop, Client, Walks}
 use Rattle.cn_walk.proofs.Walks.{IsHeld, none_by, none_left, stays, walked, walks-on}
 use Rattle.cn_walk.proofs.walking.walk_all.Goals as goal
 

@@ -1,7 +1,4 @@
-use Rattle.std.proofs.Common.{◌≡◌, ℕ, ◌<◌, ◌≤◌, All, length, min}
-use Rattle.cn_yard.specs.Lists.{tokens_in}
-use Rattle.cn_floor.specs.Lane.{LaneValue}
-use Rattle.cn_walk.specs.Walks.{Walks, inside_by}
+use Rattle.cn_walk.proofs.Common.{◌≡◌, ℕ, ◌<◌, ◌≤◌, All, length, min, tokens_in, LaneValue, Walks, inside_by}
 use Rattle.cn_walk.proofs.walking.walk_all.Given as goal
 
 -- those that are left make the whole walk

@@ -1,9 +1,4 @@
-use Rattle.std.proofs.Common.{rules, ◌≡◌, ◌∙◌, List, take, ap, subst}
-use Rattle.std.proofs.lemmas.List.{take_all}
-use Rattle.cn_ledger.specs.declared.client.Client.{Client}
-use Rattle.cn_yard.specs.Lists.{Lists, Yard, tokens_in}
-use Rattle.cn_floor.specs.Lane.{FloorValue, LaneValue}
-use Rattle.cn_walk.specs.Walks.{GrantsInOrder, Walks}
+use Rattle.cn_walk.proofs.Common.{rules, ◌≡◌, ◌∙◌, List, take, ap, subst, take_all, Client, Lists, Yard, tokens_in, FloorValue, LaneValue, GrantsInOrder, Walks}
 use Rattle.cn_walk.proofs.Ordered.{next-in-list, next-in-order, none-in-order}
 use Rattle.cn_walk.proofs.Walks.{IsHeld, comes-next, names-one, none_by, stays, walked}
 use Rattle.cn_walk.proofs.walking.walk_each.Goals as goal

@@ -1,6 +1,4 @@
-use Rattle.std.proofs.Common.{◌≡◌, take}
-use Rattle.cn_yard.specs.Lists.{tokens_in}
-use Rattle.cn_walk.specs.Walks.{GrantsInOrder, IsSole, Walks}
+use Rattle.cn_walk.proofs.Common.{◌≡◌, take, tokens_in, GrantsInOrder, IsSole, Walks}
 use Rattle.cn_walk.proofs.Walks.{IsHeld}
 use Rattle.cn_walk.proofs.walking.walk_each.Given as goal
 

@@ -1,6 +1,4 @@
-use Rattle.std.proofs.Common.{rules, ◌<◌, ◌∙◌, ap, subst, sym, arith}
-use Rattle.cn_tables.specs.Table.{IsWellFormed}
-use Rattle.cn_floor.specs.Lane.{FloorValue}
+use Rattle.cn_walk.proofs.Common.{rules, ◌<◌, ◌∙◌, ap, subst, sym, arith, IsWellFormed, FloorValue}
 use Rattle.cn_walk.proofs.Walks.{IsHeld, comes, comes-next, stays}
 use Rattle.cn_walk.proofs.walking.walk_in.Goals as goal
 

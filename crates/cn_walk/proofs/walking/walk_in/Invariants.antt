@@ -1,5 +1,4 @@
-use Rattle.std.proofs.Common.{◌+◌, ◌≤◌, length, take}
-use Rattle.cn_walk.specs.Walks.{Walks}
+use Rattle.cn_walk.proofs.Common.{◌+◌, ◌≤◌, length, take, Walks}
 use Rattle.cn_walk.proofs.walking.walk_in.Given as goal
 
 abbrev pub invariant-loop-client : goal.invariant-loop-client

@@ -1,10 +1,6 @@
-use Rattle.std.proofs.Common.{rules, ◌≡◌, ℕ, ◌<◌, [], ap, ◌∙◌, subst, sym, arith, length}
-use Rattle.cn_tables.specs.Table.{IsWellFormed}
-use Rattle.cn_yard.specs.Lists.{on, tokens_in}
-use Rattle.cn_floor.specs.Lane.{FloorValue}
+use Rattle.cn_walk.proofs.Common.{rules, ◌≡◌, ℕ, ◌<◌, [], ap, ◌∙◌, subst, sym, arith, length, IsWellFormed, on, tokens_in, FloorValue, lowest-inside, nobody-there}
 use Rattle.cn_walk.proofs.SweptWalks.{clear-below, sweeps}
 use Rattle.cn_walk.proofs.Walks.{none_by, walks-on}
-use Rattle.cn_floor.proofs.CallerLemmas.{lowest-inside, nobody-there}
 use Rattle.cn_walk.proofs.walking.walk_out.Goals as goal
 
 pub loop-wire-smaller : goal.loop-wire-smaller

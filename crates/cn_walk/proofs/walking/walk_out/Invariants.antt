@@ -1,6 +1,4 @@
-use Rattle.std.proofs.Common.{◌≡◌, ℕ, ◌<◌, ◌≤◌, [], length}
-use Rattle.cn_yard.specs.Lists.{on}
-use Rattle.cn_walk.specs.Walks.{Walks}
+use Rattle.cn_walk.proofs.Common.{◌≡◌, ℕ, ◌<◌, ◌≤◌, [], length, on, Walks}
 use Rattle.cn_walk.proofs.Walks.{IsHeld, steps_left}
 use Rattle.cn_walk.proofs.walking.walk_out.Given as goal
 

@@ -1,6 +1,4 @@
-use Rattle.std.proofs.Common.{◌≡◌, length, arith, sym, ap, ◌∙◌}
-use Rattle.std.proofs.lemmas.List.{length-map, take_all}
-use Rattle.cn_tables.specs.Table.{balancer_of}
+use Rattle.cn_wiring.proofs.Common.{◌≡◌, length, arith, sym, ap, ◌∙◌, length-map, take_all, balancer_of}
 use Rattle.cn_wiring.proofs.Close.{Closed-none, Closed-more, exit-below}
 use Rattle.cn_wiring.proofs.draft.close.Goals as goal
 

@@ -1,4 +1,4 @@
-use Rattle.cn_tables.proofs.CallerLemmas.{path-levels}
+use Rattle.cn_wiring.proofs.Common.{path-levels}
 use Rattle.cn_wiring.proofs.laws.wires_have_levels.Goals as goal
 
 pub returns : goal.returns

@@ -1,4 +1,4 @@
-use Rattle.std.proofs.Common.{arith, refl}
+use Rattle.cn_wiring.proofs.Common.{arith, refl}
 use Rattle.std.proofs.lemmas.Iterator.{YieldsList-from_range, items_from_collect}
 use Rattle.cn_wiring.proofs.row.wires_below.Goals as goal
 

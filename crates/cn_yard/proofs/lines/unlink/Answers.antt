@@ -1,5 +1,4 @@
-use Rattle.std.proofs.Common.{◌<◌, length, arith, set, ◌∙◌, sym, ap}
-use Rattle.cn_yard.proofs.Common.{next_of, prev_of, wire_of}
+use Rattle.cn_yard.proofs.Common.{◌<◌, length, arith, set, ◌∙◌, sym, ap, next_of, prev_of, wire_of}
 use Rattle.cn_yard.proofs.Unlinked.{Unlinks, near-below, off-kept, off-linked, some-there}
 use Rattle.cn_yard.proofs.lines.unlink.Goals.{then-not-is_end, else-not-is_end}
 use Rattle.cn_yard.proofs.lines.unlink.Goals as goal

@@ -1,7 +1,5 @@
-use Rattle.std.proofs.Common.{◌≡◌, ℕ, ◌-◌, ◌<◌, List, drop, length, take, arith, subst}
-use Rattle.std.proofs.lemmas.List.{length-drop, take_all}
+use Rattle.cn_yard.proofs.Common.{◌≡◌, ℕ, ◌-◌, ◌<◌, List, drop, length, take, arith, subst, length-drop, take_all, marked}
 use Rattle.cn_yard.proofs.Bits.{least-from, none-from}
-use Rattle.cn_yard.proofs.Common.{marked}
 use Rattle.cn_yard.proofs.marks.least_from.Goals as goal
 
 -- what is read are the words from one on

@@ -1,6 +1,4 @@
-use Rattle.std.proofs.Common.{◌≡◌, inl, inr, true, false, eqb, arith, w64}
-use Rattle.cn_yard.proofs.Common.{cases_eq, nat_tests}
-use Rattle.std.proofs.lemmas.Nat.Bits.{bit_at_clear_other, bit_at_clear_same, bit_at_set_other, bit_at_set_same}
+use Rattle.cn_yard.proofs.Common.{◌≡◌, inl, inr, true, false, eqb, arith, w64, cases_eq, nat_tests, bit_at_clear_other, bit_at_clear_same, bit_at_set_other, bit_at_set_same}
 use Rattle.cn_yard.proofs.marks.with_bit.Goals as goal
 
 pub returns-then-on : goal.returns-then-on

@@ -1,6 +1,4 @@
-use Rattle.std.proofs.Common.{◌≡◌, length, ◌∙◌, arith, true, rules}
-use Rattle.cn_yard.proofs.Common.{nat_tests}
-use Rattle.std.proofs.lemmas.List.{take_at}
+use Rattle.cn_yard.proofs.Common.{◌≡◌, length, ◌∙◌, arith, true, rules, nat_tests, take_at}
 use Rattle.cn_yard.proofs.AllLines.{added, added-kept, count-le, marks-one, new-one}
 use Rattle.cn_yard.proofs.moves.add.Goals as goal
 

@@ -1,6 +1,4 @@
-use Rattle.std.proofs.Common.{◌≡◌, ◌∙◌, length, arith, rules, vec_len}
-use Rattle.cn_yard.proofs.Common.{nat_tests}
-use Rattle.cn_yard.specs.Chains.{put_last}
+use Rattle.cn_yard.proofs.Common.{◌≡◌, ◌∙◌, length, arith, rules, vec_len, nat_tests, put_last}
 use Rattle.cn_yard.proofs.AllLines.{more-add, same-put}
 use Rattle.cn_yard.proofs.moves.add_all.Goals as goal
 

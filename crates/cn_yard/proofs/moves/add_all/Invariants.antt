@@ -1,6 +1,4 @@
-use Rattle.std.proofs.Common.{◌≡◌, ◌+◌, ◌-◌, length, vec_capacity}
-use Rattle.cn_yard.proofs.Common.{count_of}
-use Rattle.cn_yard.specs.Moving.{Fills, IsMore}
+use Rattle.cn_yard.proofs.Common.{◌≡◌, ◌+◌, ◌-◌, length, vec_capacity, count_of, Fills, IsMore}
 use Rattle.cn_yard.proofs.moves.add_all.Given as goal
 
 abbrev pub invariant-loop : goal.invariant-loop

@@ -1,6 +1,4 @@
-use Rattle.std.proofs.Common.{ℕ, List, refl, arith, true, ltb}
-use Rattle.cn_yard.proofs.Common.{but, count_of, nat_tests, wire_of}
-use Rattle.cn_yard.specs.Moving.{HasMarks, IsLined}
+use Rattle.cn_yard.proofs.Common.{ℕ, List, refl, arith, true, ltb, but, count_of, nat_tests, wire_of, HasMarks, IsLined}
 use Rattle.cn_yard.proofs.AllLines.{ButOne, but-one, but-none, count-le, marks-one}
 use Rattle.cn_yard.proofs.moves.relink.Goals.{After-unlink}
 use Rattle.cn_yard.proofs.moves.relink.Goals as goal

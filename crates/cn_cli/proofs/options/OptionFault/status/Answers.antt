@@ -1,4 +1,4 @@
-use Rattle.std.proofs.Common.{rules}
+use Rattle.cn_cli.proofs.Common.{rules}
 use Rattle.cn_cli.proofs.options.OptionFault.status.Goals as goal
 
 pub returns : goal.returns

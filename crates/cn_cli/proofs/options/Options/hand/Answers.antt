@@ -1,4 +1,4 @@
-use Rattle.std.proofs.Common.{rules}
+use Rattle.cn_cli.proofs.Common.{rules}
 use Rattle.cn_cli.proofs.options.Options.hand.Goals as goal
 
 pub returns-clause-hand : goal.returns-clause-hand

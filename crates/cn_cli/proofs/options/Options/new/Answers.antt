@@ -1,4 +1,4 @@
-use Rattle.std.proofs.Common.{rules}
+use Rattle.cn_cli.proofs.Common.{rules}
 use Rattle.cn_cli.proofs.options.Options.new.Goals as goal
 
 pub returns-else-hand-gt-MOST_HAND-clause-ok : goal.returns-else-hand-gt-MOST_HAND-clause-ok

@@ -1,4 +1,4 @@
-use Rattle.std.proofs.Common.{rules}
+use Rattle.cn_cli.proofs.Common.{rules}
 use Rattle.cn_cli.proofs.words.WordsFault.of_parse.Goals as goal
 
 pub returns-in-Ok : goal.returns-in-Ok

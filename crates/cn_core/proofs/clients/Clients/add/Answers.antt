@@ -1,6 +1,5 @@
-use Rattle.std.proofs.Common.{◌≡◌, ◌++◌, ◌∷◌, [], rules}
+use Rattle.cn_core.proofs.Common.{◌≡◌, ◌++◌, ◌∷◌, [], rules, Walking}
 use Rattle.cn_core.proofs.Clientele.{absent-found, come, undo}
-use Rattle.cn_core.proofs.Common.{Walking}
 use Rattle.cn_core.proofs.clients.Clients.add.Goals as goal
 
 pub invariant_of-self-then-is_err : goal.invariant_of-self-then-is_err

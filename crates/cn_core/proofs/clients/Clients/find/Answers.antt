@@ -1,7 +1,5 @@
-use Rattle.std.proofs.Common.{◌≡◌, ◌∙◌, sym, refl, ap, Some, None}
-use Rattle.cn_core.proofs.Common.{Walking}
+use Rattle.cn_core.proofs.Common.{◌≡◌, ◌∙◌, sym, refl, ap, Some, None, Walking, standing_of_client}
 use Rattle.cn_names.specs.declared.standing.Standing.TheVariants.{Holds}
-use Rattle.cn_names.specs.Names.{standing_of_client}
 use Rattle.cn_core.proofs.Clientele.{live-found, position-found}
 use Rattle.cn_core.proofs.clients.Clients.find.Goals as goal
 

@@ -1,4 +1,4 @@
-use Rattle.std.proofs.Common.{◌∙◌, sym}
+use Rattle.cn_core.proofs.Common.{◌∙◌, sym}
 use Rattle.cn_core.proofs.Clientele.{inside-found}
 use Rattle.cn_core.proofs.clients.Clients.inside.Goals as goal
 

@@ -1,5 +1,4 @@
-use Rattle.std.proofs.Common.{◌≡◌, rules, slice_index}
-use Rattle.cn_core.proofs.Common.{Balancer}
+use Rattle.cn_core.proofs.Common.{◌≡◌, rules, slice_index, Balancer}
 use Rattle.cn_core.proofs.TightLemmas.{bounded-state}
 use Rattle.cn_core.proofs.core_state.Core.balancer_count.Goals as goal
 

@@ -1,7 +1,4 @@
-use Rattle.std.proofs.Common.{◌≡◌, ◌+◌, ◌∙◌, [], ◌∷◌, length, refl, subst, sym}
-use Rattle.cn_core.proofs.Common.{IsCore, State, after_carry, inside_in, positions}
-use Rattle.cn_core.specs.InsideCore.{state_of}
-use Rattle.cn_core.specs.History.{Agrees}
+use Rattle.cn_core.proofs.Common.{◌≡◌, ◌+◌, ◌∙◌, [], ◌∷◌, length, refl, subst, sym, IsCore, State, after_carry, inside_in, positions, state_of, Agrees}
 use Rattle.cn_core.proofs.CarryLemmas.{IsCore-after_carry, visits-after-carry}
 use Rattle.cn_core.proofs.HistoryLemmas.{Agrees-after_carry}
 use Rattle.cn_core.proofs.core_state.Core.carry.Goals as goal

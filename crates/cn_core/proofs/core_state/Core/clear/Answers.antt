@@ -1,6 +1,4 @@
-use Rattle.std.proofs.Common.{rules, ◌≡◌, ◌∙◌, refl, subst, sym, ap}
-use Rattle.std.specs.Prelude.{replicate}
-use Rattle.cn_core.proofs.Common.{IsCore, State, positions, start}
+use Rattle.cn_core.proofs.Common.{rules, ◌≡◌, ◌∙◌, refl, subst, sym, ap, replicate, IsCore, State, positions, start}
 use Rattle.cn_core.proofs.LedgerLemmas.{IsCore-start}
 use Rattle.cn_core.proofs.core_state.Core.clear.Goals as goal
 

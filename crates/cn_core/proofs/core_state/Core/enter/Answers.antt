@@ -1,10 +1,8 @@
-use Rattle.std.proofs.Common.{◌∙◌, rules, ◌≡◌, arith, None, ◌++◌, ◌∷◌, []}
+use Rattle.cn_core.proofs.Common.{◌∙◌, rules, ◌≡◌, arith, None, ◌++◌, ◌∷◌, [], On, State, carried_by, position_in, positions, state_of}
 use Rattle.cn_core.proofs.LedgerMoves.{ledger-enters}
 use Rattle.cn_core.proofs.LedgerLemmas.{IsCore-state_after_enter}
 use Rattle.cn_core.proofs.TightLemmas.{room-entered}
 use Rattle.cn_core.proofs.HistoryLemmas.{history-enter}
-use Rattle.cn_core.proofs.Common.{On, State, carried_by, position_in, positions}
-use Rattle.cn_core.specs.InsideCore.{state_of}
 use Rattle.cn_core.proofs.core_state.Core.enter.Goals as goal
 
 pub count_one-requires-clause-room : goal.count_one-requires-clause-room

@@ -1,5 +1,4 @@
-use Rattle.std.proofs.Common.{◌≡◌, rules, slice_index}
-use Rattle.cn_core.proofs.Common.{Exit}
+use Rattle.cn_core.proofs.Common.{◌≡◌, rules, slice_index, Exit}
 use Rattle.cn_core.proofs.TightLemmas.{bounded-state}
 use Rattle.cn_core.proofs.core_state.Core.exit_count.Goals as goal
 

@@ -1,8 +1,5 @@
-use Rattle.std.proofs.Common.{refl}
+use Rattle.cn_core.proofs.Common.{refl, ListsByName, state_of, ListsStateHolders}
 use Rattle.std.proofs.lemmas.Result.{IfOk-weaker}
-use Rattle.cn_names.specs.Grants.{ListsByName}
-use Rattle.cn_core.specs.InsideCore.{state_of}
-use Rattle.cn_core.specs.Tight.{ListsStateHolders}
 use Rattle.cn_core.proofs.Holders.{holders-listed}
 use Rattle.cn_core.proofs.core_state.Core.holders.Goals as goal
 

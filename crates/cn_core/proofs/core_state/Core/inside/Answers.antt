@@ -1,5 +1,4 @@
-use Rattle.std.proofs.Common.{◌≡◌, ◌∙◌, rules}
-use Rattle.cn_core.proofs.Common.{carried_by, inside_in}
+use Rattle.cn_core.proofs.Common.{◌≡◌, ◌∙◌, rules, carried_by, inside_in}
 use Rattle.cn_core.proofs.HistoryLemmas.{inside-by_history}
 use Rattle.cn_core.proofs.core_state.Core.inside.Goals as goal
 

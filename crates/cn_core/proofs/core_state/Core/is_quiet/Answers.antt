@@ -1,5 +1,4 @@
-use Rattle.std.proofs.Common.{◌∙◌, sym}
-use Rattle.std.proofs.lemmas.Bool.{eqb-true}
+use Rattle.cn_core.proofs.Common.{◌∙◌, sym, eqb-true}
 use Rattle.cn_core.proofs.TightLemmas.{tight-state}
 use Rattle.cn_core.proofs.core_state.Core.is_quiet.Goals as goal
 

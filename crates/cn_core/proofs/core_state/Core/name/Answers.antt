@@ -1,5 +1,4 @@
-use Rattle.std.proofs.Common.{◌≡◌, rules, Some}
-use Rattle.cn_core.specs.State.{name_in}
+use Rattle.cn_core.proofs.Common.{◌≡◌, rules, Some, name_in}
 use Rattle.cn_core.proofs.TightLemmas.{bounded-state}
 use Rattle.cn_core.proofs.core_state.Core.name.Goals as goal
 

@@ -1,9 +1,4 @@
-use Rattle.std.proofs.Common.{rules, ◌≡◌, ◌+◌, ◌*◌, [], List, ℕ, refl, subst, sym, ap, arith, ◌∙◌}
-use Rattle.std.specs.Prelude.{replicate, length}
-use Rattle.std.proofs.lemmas.List.{length-replicate}
-use Rattle.cn_core.specs.History.{Agrees}
-use Rattle.cn_core.proofs.Common.{IsCore, State, positions, start}
-use Rattle.cn_core.specs.InsideClients.{Clients}
+use Rattle.cn_core.proofs.Common.{rules, ◌≡◌, ◌+◌, ◌*◌, [], List, ℕ, refl, subst, sym, ap, arith, ◌∙◌, replicate, length, length-replicate, Agrees, IsCore, State, positions, start, Clients}
 use Rattle.cn_core.proofs.HistoryLemmas.{Agrees-start}
 use Rattle.cn_core.proofs.LedgerLemmas.{IsCore-start}
 use Rattle.cn_core.proofs.core_state.Core.new.Goals as goal

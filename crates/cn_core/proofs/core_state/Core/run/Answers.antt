@@ -1,6 +1,5 @@
-use Rattle.std.proofs.Common.{rules, arith, ◌≡◌, ◌++◌, ◌∷◌, [], drop, append-nil, append_assoc, refl}
+use Rattle.cn_core.proofs.Common.{rules, arith, ◌≡◌, ◌++◌, ◌∷◌, [], drop, append-nil, append_assoc, refl, Enter}
 use Rattle.std.proofs.lemmas.Grind.{common_steps}
-use Rattle.cn_core.proofs.Common.{Enter}
 use Rattle.cn_core.proofs.HistoryLemmas.{runs-at, runs_to-at}
 use Rattle.cn_core.proofs.core_state.Core.run.Goals as goal
 

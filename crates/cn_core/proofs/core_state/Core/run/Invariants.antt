@@ -1,8 +1,5 @@
-use Rattle.std.proofs.Common.{◌≡◌, ◌≤◌, ◌++◌, List, drop, length, vec_len}
+use Rattle.cn_core.proofs.Common.{◌≡◌, ◌≤◌, ◌++◌, List, drop, length, vec_len, State, RunsByHistory, RunsTo, Reply}
 use Rattle.std.specs.Vec.{vec_capacity}
-use Rattle.cn_core.proofs.Common.{State}
-use Rattle.cn_core.specs.Calls.{RunsByHistory, RunsTo}
-use Rattle.cn_ledger.specs.declared.reply.Reply.{Reply}
 use Rattle.cn_core.proofs.core_state.Core.run.Given as goal
 
 -- a run of what is left completes the run

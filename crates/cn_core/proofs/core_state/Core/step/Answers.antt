@@ -1,8 +1,4 @@
-use Rattle.std.proofs.Common.{rules, refl, sym, ◌≡◌, ◌+◌, ◌-◌, ◌*◌, ◌∙◌, Some}
-use Rattle.std.specs.Prelude.{slice_index}
-use Rattle.cn_core.proofs.Common.{Balancer, Exit, On, State, Walking, position_in, position_past, positions, state_after_step, with_position}
-use Rattle.cn_names.specs.Names.{standing_of_client}
-use Rattle.cn_core.specs.InsideCore.{state_of}
+use Rattle.cn_core.proofs.Common.{rules, refl, sym, ◌≡◌, ◌+◌, ◌-◌, ◌*◌, ◌∙◌, Some, slice_index, Balancer, Exit, On, State, Walking, position_in, position_past, positions, state_after_step, with_position, standing_of_client, state_of}
 use Rattle.cn_ledger.specs.declared.moved.Moved.TheVariants.{On as Passed, Out}
 use Rattle.cn_core.proofs.HistoryLemmas.{history-step}
 use Rattle.cn_core.proofs.TightLemmas.{room-past}

@@ -1,6 +1,4 @@
-use Rattle.cn_ledger.specs.Answers.{entered_reply, stepped_reply}
-use Rattle.cn_ledger.specs.declared.answer.Answer.TheVariants.{Replied}
-use Rattle.cn_ledger.specs.declared.command.Command.TheVariants.{Step}
+use Rattle.cn_epoch.proofs.Common.{entered_reply, stepped_reply, Replied, Step}
 use Rattle.cn_epoch.proofs.Answering.{came-after, entered-by, stepped-by}
 use Rattle.cn_epoch.proofs.epochs.Epochs.answer.Goals as goal
 

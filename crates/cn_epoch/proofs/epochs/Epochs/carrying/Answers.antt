@@ -1,4 +1,4 @@
-use Rattle.std.proofs.Common.{rules}
+use Rattle.cn_epoch.proofs.Common.{rules}
 use Rattle.cn_epoch.proofs.epochs.Epochs.carrying.Goals as goal
 
 pub returns-clause-start : goal.returns-clause-start

@@ -1,8 +1,6 @@
-use Rattle.std.proofs.Common.{◌∙◌, [], refl}
-use Rattle.cn_ledger.specs.Answers.{entered_reply}
+use Rattle.cn_epoch.proofs.Common.{◌∙◌, [], refl, entered_reply, epochs_of}
 use Rattle.cn_core.specs.History as core
 use Rattle.cn_core.specs.declared.event.Event.TheVariants.{Enter}
-use Rattle.cn_epoch.specs.InsideEpochs.{epochs_of}
 use Rattle.cn_epoch.proofs.Answering.{replied}
 use Rattle.cn_epoch.proofs.epochs.Epochs.enter.Goals as goal
 

@@ -1,6 +1,4 @@
-use Rattle.std.proofs.Common.{rules, arith, ◌≡◌, ◌++◌, ◌∷◌, [], drop, append-nil, append_assoc, refl, ◌∙◌}
-use Rattle.std.proofs.lemmas.Grind.{common_steps}
-use Rattle.cn_ledger.specs.declared.command.Command.TheVariants.{Enter}
+use Rattle.cn_epoch.proofs.Common.{rules, arith, ◌≡◌, ◌++◌, ◌∷◌, [], drop, append-nil, append_assoc, refl, ◌∙◌, common_steps, Enter}
 use Rattle.cn_epoch.proofs.Answering.{runs_to-at, runs-at, runs-none}
 use Rattle.cn_epoch.proofs.epochs.Epochs.run.Goals as goal
 

@@ -1,7 +1,4 @@
-use Rattle.std.proofs.Common.{◌≡◌, ◌+◌, ◌≤◌, ◌++◌, List, drop, length, vec_capacity, vec_len}
-use Rattle.cn_ledger.specs.declared.answer.Answer.{Answer}
-use Rattle.cn_epoch.specs.Calls.{RunsCommandsTo, RunsCommandsByHistory}
-use Rattle.cn_epoch.specs.History.{Epochs}
+use Rattle.cn_epoch.proofs.Common.{◌≡◌, ◌+◌, ◌≤◌, ◌++◌, List, drop, length, vec_capacity, vec_len, Answer, RunsCommandsTo, RunsCommandsByHistory, Epochs}
 use Rattle.cn_epoch.proofs.epochs.Epochs.run.Given as goal
 
 -- a run of what is left completes the run

@@ -1,7 +1,4 @@
-use Rattle.std.proofs.Common.{◌≡◌, Bool, true, false, List, Option, None, Some, refl}
-use Rattle.cn_core.specs.declared.event.Event.{Event}
-use Rattle.cn_epoch.specs.InsideEpochs.{epochs_of}
-use Rattle.cn_epoch.specs.History.{EpochsAgree, earlier_in}
+use Rattle.cn_epoch.proofs.Common.{◌≡◌, Bool, true, false, List, Option, None, Some, refl, Event, epochs_of, EpochsAgree, earlier_in}
 use Rattle.cn_epoch.proofs.epochs.Epochs.state_laws.Goals as goal
 
 pub returns-clause-reached : goal.returns-clause-reached

@@ -1,9 +1,4 @@
-use Rattle.std.proofs.Common.{◌≡◌, ◌+◌, refl, rules}
-use Rattle.cn_core.specs.State.{inside_in}
-use Rattle.cn_core.specs.Tight.{IsTightState}
-use Rattle.cn_epoch.specs.Calls.{TellsEpoch}
-use Rattle.cn_epoch.specs.History.{next}
-use Rattle.cn_epoch.specs.InsideEpochs.{epochs_of}
+use Rattle.cn_epoch.proofs.Common.{◌≡◌, ◌+◌, refl, rules, inside_in, IsTightState, TellsEpoch, next, epochs_of}
 use Rattle.cn_epoch.proofs.Answering.{memory-after, said-tight, turned-after}
 use Rattle.cn_epoch.proofs.epochs.Epochs.turn.Goals as goal
 

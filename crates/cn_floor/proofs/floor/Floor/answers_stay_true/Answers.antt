@@ -1,4 +1,4 @@
-use Rattle.std.proofs.Common.{arith}
+use Rattle.cn_floor.proofs.Common.{arith}
 use Rattle.cn_floor.proofs.InStates.Fresh.{load-bound-few}
 use Rattle.cn_floor.proofs.floor.Floor.answers_stay_true.Goals as goal
 

@@ -1,5 +1,4 @@
-use Rattle.cn_ledger.proofs.CallerLemmas.{near-shares, smooth}
-use Rattle.cn_floor.specs.Laws.{ledger_at}
+use Rattle.cn_floor.proofs.Common.{near-shares, smooth, ledger_at}
 use Rattle.cn_floor.proofs.InStates.Missing.{missing-at}
 use Rattle.cn_floor.proofs.floor.Floor.as_many_names_are_missing_as_are_inside.Goals as goal
 

@@ -1,7 +1,4 @@
-use Rattle.std.proofs.Common.{◌≡◌, length, [], replicate, sym, ap, ◌∙◌, subst, arith}
-use Rattle.cn_floor.proofs.Common.{PostValue, tokens_in}
-use Rattle.cn_floor.specs.Carried.{start_after}
-use Rattle.cn_floor.specs.Rule.{FitsLanes}
+use Rattle.cn_floor.proofs.Common.{◌≡◌, length, [], replicate, sym, ap, ◌∙◌, subst, arith, PostValue, tokens_in, start_after, FitsLanes}
 use Rattle.cn_floor.proofs.InLane.Yards.{nobody-in}
 use Rattle.cn_floor.proofs.floor.Floor.begin.Goals as goal
 

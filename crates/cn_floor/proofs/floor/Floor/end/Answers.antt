@@ -1,9 +1,4 @@
-use Rattle.std.proofs.Common.{◌≡◌, ℕ, ◌+◌, ◌-◌, inl, inr, List, [], length, replicate, rules, sym, ap, ◌∙◌, subst, arith}
-use Rattle.cn_floor.proofs.Common.{FloorValue, IsClosed, LaneValue, Network, Start, View, WordsValue, base, cases_lt, clients_in, slots_items, tokens_in, words_in}
-use Rattle.cn_floor.specs.Carried.{words_before}
-use Rattle.cn_floor.specs.Closing.{IsMissing}
-use Rattle.cn_floor.specs.Ends.{IsClosedFloor}
-use Rattle.cn_floor.specs.Rule.{FitsLanes}
+use Rattle.cn_floor.proofs.Common.{◌≡◌, ℕ, ◌+◌, ◌-◌, inl, inr, List, [], length, replicate, rules, sym, ap, ◌∙◌, subst, arith, FloorValue, IsClosed, LaneValue, Network, Start, View, WordsValue, base, cases_lt, clients_in, slots_items, tokens_in, words_in, words_before, IsMissing, IsClosedFloor, FitsLanes}
 use Rattle.cn_floor.proofs.AtClose.Closings.{inside-yard}
 use Rattle.cn_floor.proofs.AtClose.Rises.{all-empty}
 use Rattle.cn_floor.proofs.floor.Floor.end.Goals as goal

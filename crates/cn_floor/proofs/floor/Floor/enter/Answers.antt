@@ -1,8 +1,4 @@
-use Rattle.std.proofs.Common.{◌≡◌, length, refl, arith, ap, ◌∙◌, sym, subst}
-use Rattle.cn_floor.proofs.Common.{FloorValue, IsAtomicStep, LaneValue, Network, Start, View, Yard, after_enter, tokens_in}
-use Rattle.cn_ledger.specs.Events.{Enters}
-use Rattle.cn_floor.specs.declared.floor.lane.Lane.TheInside.{Inside}
-use Rattle.cn_floor.specs.InsideLane.{IsLane}
+use Rattle.cn_floor.proofs.Common.{◌≡◌, length, refl, arith, ap, ◌∙◌, sym, subst, FloorValue, IsAtomicStep, LaneValue, Network, Start, View, Yard, after_enter, tokens_in, Enters, Inside, IsLane}
 use Rattle.cn_floor.proofs.InLane.Lanes.{lane-in, lane-with-way}
 use Rattle.cn_floor.proofs.floor.Floor.enter.Goals as goal
 

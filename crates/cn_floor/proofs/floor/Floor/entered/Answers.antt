@@ -1,4 +1,4 @@
-use Rattle.std.proofs.Common.{rules}
+use Rattle.cn_floor.proofs.Common.{rules}
 use Rattle.cn_floor.proofs.floor.Floor.entered.Goals as goal
 
 pub returns-clause-answer : goal.returns-clause-answer

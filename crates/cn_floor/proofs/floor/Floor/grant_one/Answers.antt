@@ -1,6 +1,4 @@
-use Rattle.std.proofs.Common.{◌≡◌, ℕ, ◌-◌, sym, ap, ◌∙◌, subst, arith}
-use Rattle.cn_floor.proofs.Common.{FloorValue, Network, base, name_of}
-use Rattle.cn_floor.specs.Named.{IsGranted}
+use Rattle.cn_floor.proofs.Common.{◌≡◌, ℕ, ◌-◌, sym, ap, ◌∙◌, subst, arith, FloorValue, Network, base, name_of, IsGranted}
 use Rattle.cn_floor.proofs.InLane.Named.{granted, name-fits}
 use Rattle.cn_floor.proofs.floor.Floor.grant_one.Goals as goal
 

@@ -1,7 +1,5 @@
-use Rattle.std.proofs.Common.{◌≡◌, ℕ, ◌*◌, ◌≤◌, sym, ap, ◌∙◌, subst}
-use Rattle.cn_floor.proofs.Common.{IsClosed, IsStart, Network, WordsValue, base, word_count}
+use Rattle.cn_floor.proofs.Common.{◌≡◌, ℕ, ◌*◌, ◌≤◌, sym, ap, ◌∙◌, subst, IsClosed, IsStart, Network, WordsValue, base, word_count, client_count, start_after, words_before}
 use Rattle.cn_spec.specs.declared.limits.TheConstants.{MOST_TAKEN}
-use Rattle.cn_floor.specs.Carried.{client_count, start_after, words_before}
 use Rattle.cn_floor.proofs.floor.Floor.lay.Goals as goal
 
 begun : (w : WordsValue) (quota : ℕ) → IsClosed w → client_count w ≤ MOST_TAKEN → quota ≤ MOST_TAKEN → IsStart (start_after w quota)

@@ -1,5 +1,4 @@
-use Rattle.std.proofs.Common.{length, ap, sym, ◌∙◌, subst, arith}
-use Rattle.cn_floor.proofs.Common.{AreLetBy, FloorValue, Network, Stands, end_of}
+use Rattle.cn_floor.proofs.Common.{length, ap, sym, ◌∙◌, subst, arith, AreLetBy, FloorValue, Network, Stands, end_of}
 use Rattle.cn_floor.proofs.floor.Floor.let_by.Goals as goal
 
 pub returns-clause-together : goal.returns-clause-together

@@ -1,8 +1,4 @@
-use Rattle.std.proofs.Common.{◌≡◌, [], length, replicate, sym, ap, ◌∙◌, subst, arith}
-use Rattle.cn_floor.proofs.Common.{FloorValue, LaneValue, Lists, lane_of, on, tokens_in}
-use Rattle.std.proofs.lemmas.List.{nil_from_length}
-use Rattle.cn_yard.proofs.CallerLemmas.{nobody-on}
-use Rattle.cn_floor.specs.Rule.{FitsLanes}
+use Rattle.cn_floor.proofs.Common.{◌≡◌, [], length, replicate, sym, ap, ◌∙◌, subst, arith, FloorValue, LaneValue, Lists, lane_of, on, tokens_in, nil_from_length, nobody-on, FitsLanes}
 use Rattle.cn_floor.proofs.AtClose.Rises.{all-empty}
 use Rattle.cn_floor.proofs.floor.Floor.let_walk.Goals as goal
 

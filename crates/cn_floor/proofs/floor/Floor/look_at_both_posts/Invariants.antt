@@ -1,4 +1,4 @@
-use Rattle.cn_floor.specs.Views.{after_look}
+use Rattle.cn_floor.proofs.Common.{after_look}
 use Rattle.cn_floor.proofs.floor.Floor.look_at_both_posts.Given as goal
 
 abbrev pub ghosts-look_at_both : goal.ghosts-look_at_both

@@ -1,4 +1,4 @@
-use Rattle.std.proofs.Common.{arith}
+use Rattle.cn_floor.proofs.Common.{arith}
 use Rattle.cn_floor.proofs.InStates.Fresh.{load-bound-few}
 use Rattle.cn_floor.proofs.InStates.Names.{names-once}
 use Rattle.cn_floor.proofs.floor.Floor.names_are_once.Goals as goal

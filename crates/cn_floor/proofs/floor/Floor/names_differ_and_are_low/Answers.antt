@@ -1,7 +1,5 @@
-use Rattle.cn_ledger.proofs.CallerLemmas.{bounded, granted-once, names-differ}
-use Rattle.cn_floor.specs.Laws.{ledger_at}
+use Rattle.cn_floor.proofs.Common.{bounded, granted-once, names-differ, ledger_at, arith, refl}
 use Rattle.cn_floor.proofs.InStates.Fresh.{load-bound-few}
-use Rattle.std.proofs.Common.{arith, refl}
 use Rattle.cn_floor.proofs.floor.Floor.names_differ_and_are_low.Goals as goal
 
 pub returns-clause-differ : goal.returns-clause-differ

@@ -1,6 +1,4 @@
-use Rattle.std.proofs.Common.{arith}
-use Rattle.cn_spec.proofs.CallerLemmas.{at_most_once}
-use Rattle.cn_floor.proofs.Common.{count_in}
+use Rattle.cn_floor.proofs.Common.{arith, at_most_once, count_in}
 use Rattle.cn_floor.proofs.floor.Floor.numbers_differ.Goals as goal
 
 pub returns : goal.returns

@@ -1,10 +1,6 @@
-use Rattle.std.proofs.Common.{◌≡◌, ℕ, ◌+◌, ◌*◌, ◌%◌, ◌<◌, ◌⊎◌, inl, inr, List, [], ◌∷◌, ◌++◌, length, refl, sym, ap, ◌∙◌, subst, arith}
-use Rattle.cn_floor.proofs.Common.{Balancer, End, Exit, FloorValue, IsAlone, IsLetBy, IsWellFormed, Network, Stands, Start, View, after_step, end_of, output_wire}
-use Rattle.cn_floor.specs.Alone.{OnlyPassed, PassesOn}
+use Rattle.cn_floor.proofs.Common.{◌≡◌, ℕ, ◌+◌, ◌*◌, ◌%◌, ◌<◌, ◌⊎◌, inl, inr, List, [], ◌∷◌, ◌++◌, length, refl, sym, ap, ◌∙◌, subst, arith, Balancer, End, Exit, FloorValue, IsAlone, IsLetBy, IsWellFormed, Network, Stands, Start, View, after_step, end_of, output_wire, OnlyPassed, PassesOn, mod_below, IsNetwork}
 use Rattle.cn_floor.proofs.InLane.Alone.{alone-on, passed-more, passed-on, passes-more, there-alone}
 use Rattle.cn_floor.proofs.InLane.Depths.{EndsAt, LiesAt, at-balancer, at-exit, entries-first, one-deeper}
-use Rattle.std.proofs.lemmas.Nat.{mod_below}
-use Rattle.cn_tables.specs.Network.{IsNetwork}
 use Rattle.cn_floor.proofs.floor.Floor.pass_on.Given as given
 use Rattle.cn_floor.proofs.floor.Floor.pass_on.Goals as goal
 

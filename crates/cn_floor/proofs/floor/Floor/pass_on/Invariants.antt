@@ -1,6 +1,4 @@
-use Rattle.std.proofs.Common.{◌≡◌, ℕ, List}
-use Rattle.cn_floor.proofs.Common.{IsAlone}
-use Rattle.cn_floor.specs.Alone.{OnlyPassed, PassesOn}
+use Rattle.cn_floor.proofs.Common.{◌≡◌, ℕ, List, IsAlone, OnlyPassed, PassesOn}
 use Rattle.cn_floor.proofs.InLane.Depths.{EndsAt, LiesAt}
 use Rattle.cn_floor.proofs.floor.Floor.pass_on.Given as goal
 

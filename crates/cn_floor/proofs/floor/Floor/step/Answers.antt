@@ -1,12 +1,7 @@
-use Rattle.std.proofs.Common.{◌≡◌, ℕ, ◌+◌, ◌*◌, ◌-◌, ◌%◌, ◌<◌, List, Some, refl, arith, sym, ap, ◌∙◌, subst}
-use Rattle.cn_floor.proofs.Common.{Balancer, End, Exit, FloorValue, IsLetBy, IsThere, LaneValue, Network, Stands, Start, View, after_step, base, end_of, lane_of, name_of, output_wire}
-use Rattle.cn_ledger.specs.declared.moved.Moved.TheVariants.{On, Out}
+use Rattle.cn_floor.proofs.Common.{◌≡◌, ℕ, ◌+◌, ◌*◌, ◌-◌, ◌%◌, ◌<◌, List, Some, refl, arith, sym, ap, ◌∙◌, subst, Balancer, End, Exit, FloorValue, IsLetBy, IsThere, LaneValue, Network, Stands, Start, View, after_step, base, end_of, lane_of, name_of, output_wire, On, Out, there-alike, FitsLanes, Moves, standing}
 use Rattle.cn_floor.proofs.InLane.Lanes.{lane-on, lane-out, steps-on}
-use Rattle.cn_yard.proofs.CallerLemmas.{there-alike}
-use Rattle.cn_floor.specs.Rule.{FitsLanes}
 use Rattle.cn_floor.proofs.InLane.Named.{name-small}
 use Rattle.cn_floor.proofs.floor.Floor.step.Goals as goal
-use Rattle.cn_yard.specs.Lists.{Moves, standing}
 
 pub step-number-requires-clause-there : goal.step-number-requires-clause-there
 step-number-requires-clause-there c =

@@ -1,9 +1,6 @@
-use Rattle.std.proofs.Common.{◌≡◌, ℕ, ◌+◌, ◌*◌, ◌%◌, ◌<◌, ◌≤◌, length, refl, arith, sym, ap, ◌∙◌, subst}
-use Rattle.cn_floor.proofs.Common.{AreLetBy, Balancer, End, Exit, FloorValue, LaneValue, LeadsOn, Lists, Network, Stands, Start, View, after_sweep, base, end_of, lane_of, name_of, on, output_wire, sum-below-part, times_in}
-use Rattle.cn_yard.specs.Deals.{IsDealt, out_of}
+use Rattle.cn_floor.proofs.Common.{◌≡◌, ℕ, ◌+◌, ◌*◌, ◌%◌, ◌<◌, ◌≤◌, length, refl, arith, sym, ap, ◌∙◌, subst, AreLetBy, Balancer, End, Exit, FloorValue, LaneValue, LeadsOn, Lists, Network, Stands, Start, View, after_sweep, base, end_of, lane_of, name_of, on, output_wire, sum-below-part, times_in, IsDealt, out_of, FitsLanes}
 use Rattle.cn_floor.specs.declared.view.Sweep.TheVariants.{On, Out}
 use Rattle.cn_floor.proofs.InLane.Swept.{cleared, lane-dealt, lane-left, outs-are, some-inside, sweeps-on}
-use Rattle.cn_floor.specs.Rule.{FitsLanes}
 use Rattle.cn_floor.proofs.InLane.Named.{name-small}
 use Rattle.cn_floor.proofs.floor.Floor.sweep.Goals as goal
 

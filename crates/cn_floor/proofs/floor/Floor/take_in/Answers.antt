@@ -1,9 +1,5 @@
-use Rattle.std.proofs.Common.{◌≡◌, ◌+◌, ◌-◌, ◌++◌, List, [], length, get_or, length-append, sym, ap, ◌∙◌, subst, arith}
-use Rattle.cn_floor.proofs.Common.{FloorValue, Grant, LaneValue, Lists, PostValue, View, on_in, tokens_in}
-use Rattle.cn_yard.proofs.CallerLemmas.{nobody-on}
-use Rattle.cn_floor.specs.Views.{after_join, after_look}
+use Rattle.cn_floor.proofs.Common.{◌≡◌, ◌+◌, ◌-◌, ◌++◌, List, [], length, get_or, length-append, sym, ap, ◌∙◌, subst, arith, FloorValue, Grant, LaneValue, Lists, PostValue, View, on_in, tokens_in, nobody-on, after_join, after_look, FitsLanes}
 use Rattle.cn_floor.proofs.InLane.Lanes.{lane-with-way}
-use Rattle.cn_floor.specs.Rule.{FitsLanes}
 use Rattle.cn_floor.proofs.floor.Floor.take_in.Goals as goal
 
 pub invariant_of-lane : goal.invariant_of-lane

@@ -1,5 +1,4 @@
-use Rattle.std.proofs.Common.{ℕ, ap, arith}
-use Rattle.cn_floor.proofs.Common.{Exit, once_below}
+use Rattle.cn_floor.proofs.Common.{ℕ, ap, arith, Exit, once_below}
 use Rattle.cn_floor.proofs.AtClose.Ends.{tight-before}
 use Rattle.cn_floor.proofs.floor.Floor.visits_go_on.Goals as goal
 

@@ -1,6 +1,4 @@
-use Rattle.std.proofs.Common.{◌≡◌, ℕ, ◌<◌, ◌++◌, [], length, replicate, rules, sym, ap, ◌∙◌, subst, arith}
-use Rattle.cn_floor.proofs.Common.{Exit, FloorValue, IsAlone, IsAtomicStep, IsLetBy, Start, View, end_of, last_on, length-map-range_with_len, on}
-use Rattle.cn_ledger.specs.Events.{Enters}
+use Rattle.cn_floor.proofs.Common.{◌≡◌, ℕ, ◌<◌, ◌++◌, [], length, replicate, rules, sym, ap, ◌∙◌, subst, arith, Exit, FloorValue, IsAlone, IsAtomicStep, IsLetBy, Start, View, end_of, last_on, length-map-range_with_len, on, Enters}
 use Rattle.cn_floor.proofs.InLane.Alone.{there-alone}
 use Rattle.cn_floor.proofs.InLane.Named.{alone-entered, gone-alone}
 use Rattle.cn_floor.proofs.floor.Floor.walk_by.Goals as goal

@@ -1,4 +1,4 @@
-use Rattle.std.proofs.Common.{arith}
+use Rattle.cn_floor.proofs.Common.{arith}
 use Rattle.cn_floor.proofs.InStates.Bounds.{count-few, few-came}
 use Rattle.cn_floor.proofs.floor.Floor.words_are_few.Goals as goal
 

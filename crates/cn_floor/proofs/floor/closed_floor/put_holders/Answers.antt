@@ -1,5 +1,4 @@
-use Rattle.std.proofs.Common.{rules, ◌<◌, List, length, get_or, arith}
-use Rattle.cn_floor.proofs.Common.{Grant}
+use Rattle.cn_floor.proofs.Common.{rules, ◌<◌, List, length, get_or, arith, Grant}
 use Rattle.cn_floor.proofs.AtClose.Holding.{all-stand, name-low, one-more}
 use Rattle.cn_floor.proofs.floor.closed_floor.put_holders.Goals as goal
 

@@ -1,5 +1,4 @@
-use Rattle.std.proofs.Common.{◌≡◌, ℕ, ◌<◌, length, get_or}
-use Rattle.cn_floor.proofs.Common.{Grant}
+use Rattle.cn_floor.proofs.Common.{◌≡◌, ℕ, ◌<◌, length, get_or, Grant}
 use Rattle.cn_floor.proofs.floor.closed_floor.put_holders.Given as goal
 
 -- the clients of the grants so far stand at their names

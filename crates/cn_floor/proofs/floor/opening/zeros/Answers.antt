@@ -1,6 +1,4 @@
-use Rattle.std.proofs.Common.{◌≡◌, ℕ, ◌+◌, List, replicate, sym, ap, ◌∙◌, subst, arith}
-use Rattle.cn_floor.proofs.Common.{Table, clients_in, word_count}
-use Rattle.cn_floor.specs.Rule.{IsCarried}
+use Rattle.cn_floor.proofs.Common.{◌≡◌, ℕ, ◌+◌, List, replicate, sym, ap, ◌∙◌, subst, arith, Table, clients_in, word_count, IsCarried}
 use Rattle.cn_floor.proofs.InStates.Openings.{carries-nothing, none-came}
 use Rattle.cn_floor.proofs.floor.opening.zeros.Goals as goal
 

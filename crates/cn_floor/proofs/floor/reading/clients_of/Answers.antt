@@ -1,6 +1,4 @@
-use Rattle.std.proofs.Common.{ℕ, ◌+◌, sym, arith}
-use Rattle.cn_spec.proofs.CallerLemmas.{sum-below-fewer, sum-below-next, sum-below-none}
-use Rattle.cn_floor.proofs.Common.{entered_in, slots_items, words_in}
+use Rattle.cn_floor.proofs.Common.{ℕ, ◌+◌, sym, arith, sum-below-fewer, sum-below-next, sum-below-none, entered_in, slots_items, words_in}
 use Rattle.cn_floor.proofs.InStates.Raised.{entered-word}
 use Rattle.cn_floor.proofs.floor.reading.clients_of.Goals as goal
 

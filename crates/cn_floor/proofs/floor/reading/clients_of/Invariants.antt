@@ -1,5 +1,4 @@
-use Rattle.std.proofs.Common.{◌≡◌}
-use Rattle.cn_floor.proofs.Common.{entered_in, slots_items, sum_below, words_in}
+use Rattle.cn_floor.proofs.Common.{◌≡◌, entered_in, slots_items, sum_below, words_in}
 use Rattle.cn_floor.proofs.floor.reading.clients_of.Given as goal
 
 abbrev pub invariant-loop-entry : goal.invariant-loop-entry

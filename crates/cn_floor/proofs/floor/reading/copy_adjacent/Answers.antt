@@ -1,5 +1,4 @@
-use Rattle.std.proofs.Common.{rules, arith}
-use Rattle.cn_floor.proofs.Common.{slots_items}
+use Rattle.cn_floor.proofs.Common.{rules, arith, slots_items}
 use Rattle.cn_floor.proofs.AtClose.Closings.{at-get}
 use Rattle.cn_floor.proofs.Lists.{copied-all, copied-next}
 use Rattle.cn_floor.proofs.floor.reading.copy_adjacent.Goals as goal

@@ -1,5 +1,4 @@
-use Rattle.std.proofs.Common.{◌≡◌, length, take}
-use Rattle.cn_floor.proofs.Common.{slots_items}
+use Rattle.cn_floor.proofs.Common.{◌≡◌, length, take, slots_items}
 use Rattle.cn_floor.proofs.floor.reading.copy_adjacent.Given as goal
 
 -- the places so far have the words of the table

@@ -1,5 +1,4 @@
-use Rattle.std.proofs.Common.{arith, rules, sym}
-use Rattle.cn_floor.proofs.Common.{slots_items, words_in}
+use Rattle.cn_floor.proofs.Common.{arith, rules, sym, slots_items, words_in}
 use Rattle.cn_floor.proofs.Lists.{copied-all, copied-next}
 use Rattle.cn_floor.proofs.floor.reading.copy_apart.Goals as goal
 

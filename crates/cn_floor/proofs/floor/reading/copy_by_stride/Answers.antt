@@ -1,6 +1,4 @@
-use Rattle.std.proofs.Common.{◌≡◌, ℕ, List, ap, length, sym, ◌∙◌}
-use Rattle.cn_floor.proofs.Common.{slots_items, spread, words_in}
-use Rattle.cn_floor.specs.Spread.{IsSpaced}
+use Rattle.cn_floor.proofs.Common.{◌≡◌, ℕ, List, ap, length, sym, ◌∙◌, slots_items, spread, words_in, IsSpaced}
 use Rattle.cn_floor.proofs.InStates.Laid.{spread-one}
 use Rattle.cn_floor.proofs.floor.reading.copy_by_stride.Goals as goal
 

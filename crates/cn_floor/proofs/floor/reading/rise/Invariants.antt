@@ -1,4 +1,4 @@
-use Rattle.std.proofs.Common.{◌≡◌, ℕ, ◌-◌, ◌<◌, ◌≤◌, length, slice_index}
+use Rattle.cn_floor.proofs.Common.{◌≡◌, ℕ, ◌-◌, ◌<◌, ◌≤◌, length, slice_index}
 use Rattle.cn_floor.proofs.floor.reading.rise.Given as goal
 
 abbrev pub invariant-loop-i : goal.invariant-loop-i

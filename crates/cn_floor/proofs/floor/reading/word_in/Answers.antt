@@ -1,6 +1,4 @@
-use Rattle.std.proofs.Common.{◌*◌, ◌<◌, ℕ, List, ap, arith, get_or, length, sym, ◌∙◌}
-use Rattle.cn_floor.proofs.Common.{slots_items, words_in}
-use Rattle.std.specs.Mem.Slots.{slots_counts, slots_len, slots_small}
+use Rattle.cn_floor.proofs.Common.{◌*◌, ◌<◌, ℕ, List, ap, arith, get_or, length, sym, ◌∙◌, slots_items, words_in, slots_counts, slots_len, slots_small}
 use Rattle.cn_floor.proofs.AtClose.Closings.{at-get}
 use Rattle.cn_floor.proofs.InStates.Spreads.{get-spread, length-spread, low-spread}
 use Rattle.cn_floor.proofs.floor.reading.word_in.Goals as goal

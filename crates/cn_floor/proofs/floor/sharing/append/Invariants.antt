@@ -1,4 +1,4 @@
-use Rattle.std.proofs.Common.{◌≡◌, ◌++◌, take, vec_capacity}
+use Rattle.cn_floor.proofs.Common.{◌≡◌, ◌++◌, take, vec_capacity}
 use Rattle.cn_floor.proofs.floor.sharing.append.Given as goal
 
 abbrev pub invariant-loop-grant : goal.invariant-loop-grant

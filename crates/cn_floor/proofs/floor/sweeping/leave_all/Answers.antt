@@ -1,6 +1,4 @@
-use Rattle.std.proofs.Common.{◌≡◌, ℕ, ◌+◌, ◌-◌, ◌≤◌, ◌++◌, ◌∷◌, [], length, length-append, sym, ap, ◌∙◌, arith, rules}
-use Rattle.cn_floor.proofs.Common.{name_of, on}
-use Rattle.cn_yard.proofs.CallerLemmas.{IsFirst, first-is, none-first}
+use Rattle.cn_floor.proofs.Common.{◌≡◌, ℕ, ◌+◌, ◌-◌, ◌≤◌, ◌++◌, ◌∷◌, [], length, length-append, sym, ap, ◌∙◌, arith, rules, name_of, on, IsFirst, first-is, none-first}
 use Rattle.cn_floor.proofs.InLane.Outs.{client-is, has-many, leaves-on, leaving, left-all, one-less, some-left, stands}
 use Rattle.cn_floor.proofs.InLane.Named.{name-rises}
 use Rattle.cn_floor.proofs.floor.sweeping.leave_all.Goals as goal

@@ -1,5 +1,4 @@
-use Rattle.std.proofs.Common.{◌≡◌, length, vec_capacity}
-use Rattle.cn_floor.proofs.Common.{on}
+use Rattle.cn_floor.proofs.Common.{◌≡◌, length, vec_capacity, on}
 use Rattle.cn_floor.proofs.InLane.Outs.{IsLeaving}
 use Rattle.cn_floor.proofs.floor.sweeping.leave_all.Given as goal
 

@@ -1,8 +1,5 @@
-use Rattle.std.proofs.Common.{◌+◌, inl, inr, List, get_or, set, ap, ◌∙◌, arith, length-set}
-use Rattle.std.proofs.lemmas.Bool.{cases_eq}
-use Rattle.std.proofs.lemmas.List.{get_or_default, get_or-set_other, get_or-set_same}
+use Rattle.cn_handles.proofs.Common.{◌+◌, inl, inr, List, get_or, set, ap, ◌∙◌, arith, length-set, cases_eq, get_or_default, get_or-set_other, get_or-set_same, copy_of}
 use Rattle.cn_floor.specs.declared.view.Grant as floor
-use Rattle.cn_handles.specs.Questions.{copy_of}
 use Rattle.cn_handles.specs.declared.handles.grants.Grant.{Grant}
 use Rattle.cn_handles.proofs.handles.grants.copy_from.Goals as goal
 

@@ -1,6 +1,5 @@
-use Rattle.std.proofs.Common.{◌≡◌, ℕ, ◌+◌, ◌<◌, length, get_or}
+use Rattle.cn_handles.proofs.Common.{◌≡◌, ℕ, ◌+◌, ◌<◌, length, get_or, copy_of}
 use Rattle.cn_floor.specs.declared.view.Grant as floor
-use Rattle.cn_handles.specs.Questions.{copy_of}
 use Rattle.cn_handles.specs.declared.handles.grants.Grant.{Grant}
 use Rattle.cn_handles.proofs.handles.grants.copy_from.Given as goal
 

@@ -1,5 +1,4 @@
-use Rattle.std.specs.Prelude.{◌≤◌}
-use Rattle.cn_handles.specs.Looking.{GoesOn, IsWithin}
+use Rattle.cn_handles.proofs.Common.{◌≤◌, GoesOn, IsWithin}
 use Rattle.cn_handles.proofs.places.FloorWithPlaces.search.Given as goal
 
 -- it passed so many rows at least, and none of them had one

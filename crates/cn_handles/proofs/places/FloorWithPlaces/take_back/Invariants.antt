@@ -1,4 +1,4 @@
-use Rattle.cn_handles.specs.Looking.{IsNewSearch}
+use Rattle.cn_handles.proofs.Common.{IsNewSearch}
 use Rattle.cn_handles.proofs.places.FloorWithPlaces.take_back.Given as goal
 
 -- so many searches were in vain

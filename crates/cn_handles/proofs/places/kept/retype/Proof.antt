@@ -1,35 +1,12 @@
 -- `retype` keeps the pointer: a box of either type lies in the same cells, so nothing in one is nothing in the other.
-use Rattle.std.proofs.Common.{◌≡◌, ℕ, List, [], ◌∷◌, ◌++◌, refl, sym, subst}
-use seplogic.Ra.Ura.{Ura}
-use mir.Val.{Val, vptr}
-use base.Logic.{SProp, ent, emp, id⊢}
-use prog.Wp.{WpFn}
-use contract.Monad.{fact, fact_i}
-use contract.Running.{tables}
-use types.Logic.{Logic, sem}
-use types.Kit.{‵, raw, ◌⊛◌, ◌$◌, ◌∵◌, !, qed, by, move, keep, use0, use1, split, suffices, rewrite, fsplit, fjoin}
-use types.Part.{agg, sub, whole}
-use types.Run.{stop, fld, of_opd, no_more, and_then, returns, enter}
-use types.ByLocal.{alloc_all, pass_all, free_all, look_at, get, get_in, sets}
-use denote.Memory.{part_of}
-use denote.RattleType.{RattleType, owns}
-use denote.RawPtr.{block_ptr}
-use denote.Signature.{types_at, plain}
-use denote.Steps.{nothing, heard}
-use denote.Triple.Entry.{alive}
-use denote.Triple.Walked.{Stays, stay_dropped, walk_of}
-use Rattle.std.proofs.alloc.Calls.{Goes-blank}
+use Rattle.cn_handles.proofs.Common.{◌≡◌, ℕ, List, [], ◌∷◌, ◌++◌, refl, sym, subst, Ura, Val, vptr, SProp, ent, emp, id⊢, WpFn, fact, fact_i, tables, Logic, sem, ‵, raw, ◌⊛◌, ◌$◌, ◌∵◌, !, qed, by, move, keep, use0, use1, split, suffices, rewrite, fsplit, fjoin, agg, sub, whole, stop, fld, of_opd, no_more, and_then, returns, enter, alloc_all, pass_all, free_all, look_at, get, get_in, sets, part_of, RattleType, owns, block_ptr, types_at, plain, nothing, heard, alive, Stays, stay_dropped, walk_of, Goes-blank, ghosts, box_owns, proved_at, leaves, Nothing}
 use Rattle.std.proofs.alloc.Global.TheLaws as heap_laws
-use Rattle.std.specs.contracts.impls.GlobalAllocator.TheImpl.{ghosts}
-use Rattle.std.specs.Box.Ownership.{box_owns}
-use Rattle.std.proofs.raw_atomic.Walks.{proved_at, leaves}
 use Rattle.cn_handles.proofs.Loosened.{both, BoxPointer, loose_good, loose_in, loose_out}
 use Rattle.cn_handles.proofs.Values.{Z, R}
 use Rattle.cn_handles.specs.contracts.handles.floor_record.FloorRecord as floor_record
 use Rattle.cn_handles.specs.contracts.handles.held.Held as held
 use Rattle.cn_handles.specs.contracts.handles.held_taker.HeldTaker as held_taker
 use Rattle.cn_handles.specs.contracts.places.kept.LaneLayout as unshared
-use Rattle.cn_handles.specs.declared.handles.held.Held.TheVariants.{Nothing}
 use Rattle.cn_handles.specs.contracts.places.kept.retype.{ended, clauses}
 use Rattle.cn_handles.specs.contracts.places.kept.retype.Key.{name as #self}
 use Rattle.cn_handles.proofs.places.kept.retype.Statement.{statement}

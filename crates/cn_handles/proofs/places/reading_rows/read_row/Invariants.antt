@@ -1,4 +1,4 @@
-use Rattle.std.specs.Prelude.{◌≡◌}
+use Rattle.cn_handles.proofs.Common.{◌≡◌}
 use Rattle.cn_handles.proofs.places.reading_rows.read_row.Given as goal
 
 -- so often it was looked

@@ -1,5 +1,4 @@
-use Rattle.std.specs.Prelude.{◌≡◌, ◌≤◌}
-use Rattle.cn_handles.specs.Looking.{GoesOn}
+use Rattle.cn_handles.proofs.Common.{◌≡◌, ◌≤◌, GoesOn}
 use Rattle.cn_handles.proofs.places.searching.search_row.Given as goal
 
 -- it passed so many places at least, and found none

@@ -1,5 +1,4 @@
-use Rattle.std.proofs.Common.{ℕ, ◌+◌, ◌-◌, ◌*◌, ◌/◌, ◌<◌, ◌≤◌, ◌≡◌, suc, zero, ap, ◌∙◌, arith}
-use Rattle.cn_yard.specs.Deals.{every_second}
+use Rattle.cn_lists.proofs.Common.{ℕ, ◌+◌, ◌-◌, ◌*◌, ◌/◌, ◌<◌, ◌≤◌, ◌≡◌, suc, zero, ap, ◌∙◌, arith, every_second}
 use Rattle.cn_lists.proofs.Groups.{placed-even, placed-odd, within-part}
 use Rattle.cn_lists.proofs.listed.PlacesPartyGranting.halves.Goals as goal
 

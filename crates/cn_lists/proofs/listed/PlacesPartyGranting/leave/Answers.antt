@@ -1,9 +1,4 @@
-use Rattle.std.proofs.Common.{◌≡◌, ℕ, ◌+◌, ◌-◌, ◌*◌, ◌<◌, ◌≤◌, List, ◌++◌, arith, length, sym, ap, ◌∙◌, refl, subst, append-nil}
-use Rattle.std.specs.Prelude.{slice_index}
-use Rattle.std.proofs.Math.Nat.{mul-le-mul_left}
-use Rattle.cn_lists.proofs.Common.{Grant}
-use Rattle.cn_lists.specs.Listed.{AreNoted, gone_too, placed}
-use Rattle.cn_floor.specs.Sweeps.{grants_out}
+use Rattle.cn_lists.proofs.Common.{◌≡◌, ℕ, ◌+◌, ◌-◌, ◌*◌, ◌<◌, ◌≤◌, List, ◌++◌, arith, length, sym, ap, ◌∙◌, refl, subst, append-nil, slice_index, mul-le-mul_left, Grant, AreNoted, gone_too, placed, grants_out}
 use Rattle.cn_lists.proofs.ByPlace.{none-too, noted-next}
 use Rattle.cn_lists.proofs.listed.PlacesPartyGranting.leave.Goals as goal
 

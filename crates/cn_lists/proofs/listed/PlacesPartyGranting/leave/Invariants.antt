@@ -1,7 +1,4 @@
-use Rattle.std.proofs.Common.{◌≡◌, ℕ, ◌+◌, ◌++◌, List, length, vec_capacity}
-use Rattle.cn_floor.specs.Sweeps.{grants_out}
-use Rattle.cn_lists.proofs.Common.{Grant}
-use Rattle.cn_lists.specs.Listed.{AreNoted, gone_too, placed}
+use Rattle.cn_lists.proofs.Common.{◌≡◌, ℕ, ◌+◌, ◌++◌, List, length, vec_capacity, grants_out, Grant, AreNoted, gone_too, placed}
 use Rattle.cn_lists.proofs.listed.PlacesPartyGranting.leave.Given as goal
 
 abbrev pub invariant-loop-number : goal.invariant-loop-number

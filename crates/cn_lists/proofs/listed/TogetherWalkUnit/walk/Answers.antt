@@ -1,7 +1,4 @@
-use Rattle.std.proofs.Common.{rules, ◌≡◌, ℕ, List, [], length, sym, ap, ◌∙◌, refl, subst, append-nil}
-use Rattle.cn_spec.proofs.CallerLemmas.{times-nil}
-use Rattle.cn_lists.proofs.Common.{Grant, View}
-use Rattle.cn_lists.specs.Listed.{AreNamesBy, AreNoted, ListFrame, gone_too, placed}
+use Rattle.cn_lists.proofs.Common.{rules, ◌≡◌, ℕ, List, [], length, sym, ap, ◌∙◌, refl, subst, append-nil, times-nil, Grant, View, AreNamesBy, AreNoted, ListFrame, gone_too, placed}
 use Rattle.cn_lists.proofs.ByPlace.{by-place}
 use Rattle.cn_lists.proofs.listed.TogetherWalkUnit.walk.Goals as goal
 

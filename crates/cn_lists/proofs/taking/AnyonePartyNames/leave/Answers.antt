@@ -1,4 +1,4 @@
-use Rattle.std.proofs.Common.{arith}
+use Rattle.cn_lists.proofs.Common.{arith}
 use Rattle.cn_lists.proofs.Taken.{written-more}
 use Rattle.cn_lists.proofs.taking.AnyonePartyNames.leave.Goals as goal
 

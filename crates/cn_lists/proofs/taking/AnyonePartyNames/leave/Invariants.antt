@@ -1,4 +1,4 @@
-use Rattle.std.proofs.Common.{◌≡◌, ℕ, ◌+◌, ◌-◌, ◌<◌, get_or}
+use Rattle.cn_lists.proofs.Common.{◌≡◌, ℕ, ◌+◌, ◌-◌, ◌<◌, get_or}
 use Rattle.cn_spec.specs.Step as step
 use Rattle.cn_lists.proofs.taking.AnyonePartyNames.leave.Given as goal
 

@@ -1,8 +1,6 @@
-use Rattle.std.proofs.Common.{◌≡◌, nat_eq, None, Some, ◌∙◌, arith}
+use Rattle.cn_names.proofs.Common.{◌≡◌, nat_eq, None, Some, ◌∙◌, arith, get, insert_entry, Walking}
 use Rattle.std.proofs.lemmas.Grind.{common_steps}
-use Rattle.indexmap.specs.IndexMap.{get, insert_entry}
 use Rattle.indexmap.proofs.CallerLemmas.{insert_entry-new}
-use Rattle.cn_names.specs.declared.standing.Standing.TheVariants.{Walking}
 use Rattle.cn_names.proofs.Entries.{insert-entry-same}
 use Rattle.cn_names.proofs.names.Names.admit.Goals as goal
 use Rattle.cn_names.proofs.names.Names.admit.Goals.{in-Ok-Vacant, in-Ok-Occupied, in-Err}

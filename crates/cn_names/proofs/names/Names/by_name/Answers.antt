@@ -1,7 +1,5 @@
-use Rattle.std.proofs.Common.{◌∙◌, sym, refl, true≢false, ℕ, length, ap}
+use Rattle.cn_names.proofs.Common.{◌∙◌, sym, refl, true≢false, ℕ, length, ap, length_permutation, grants_in}
 use Rattle.std.proofs.lemmas.List.{length-map}
-use Rattle.std.proofs.lemmas.List.Sorted.{length_permutation}
-use Rattle.cn_names.specs.Grants.{grants_in}
 use Rattle.cn_names.proofs.Walking.{walking-from-any, any-from-walking, length-grants-in}
 use Rattle.cn_names.proofs.names.Names.by_name.Goals as goal
 

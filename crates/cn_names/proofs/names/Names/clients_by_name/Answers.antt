@@ -1,6 +1,5 @@
-use Rattle.std.proofs.Common.{◌≡◌, IfOk, map, rules}
+use Rattle.cn_names.proofs.Common.{◌≡◌, IfOk, map, rules, ListsByName}
 use Rattle.std.proofs.lemmas.Result.{IfOk-weaker}
-use Rattle.cn_names.specs.Grants.{ListsByName}
 use Rattle.cn_names.proofs.Rising.{rising-from_sorted}
 use Rattle.cn_names.proofs.names.Names.clients_by_name.Goals as goal
 

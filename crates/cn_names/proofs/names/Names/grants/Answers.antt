@@ -1,4 +1,4 @@
-use Rattle.std.proofs.Common.{append_assoc, rules}
+use Rattle.cn_names.proofs.Common.{append_assoc, rules}
 use Rattle.cn_names.proofs.names.Names.grants.Goals as goal
 
 pub loop-client-preserved-in-Holds : goal.loop-client-preserved-in-Holds

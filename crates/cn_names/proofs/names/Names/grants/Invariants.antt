@@ -1,6 +1,5 @@
-use Rattle.std.proofs.Common.{◌≡◌, ◌+◌, ◌≤◌, ◌++◌, length, vec_len}
+use Rattle.cn_names.proofs.Common.{◌≡◌, ◌+◌, ◌≤◌, ◌++◌, length, vec_len, grants_in}
 use Rattle.std.specs.Vec.{vec_capacity}
-use Rattle.cn_names.specs.Grants.{grants_in}
 use Rattle.cn_names.proofs.names.Names.grants.Given as goal
 
 -- the grants so far, and those in what is left, are all

@@ -1,4 +1,4 @@
-use Rattle.std.proofs.Common.{rules}
+use Rattle.cn_renamer.proofs.Common.{rules}
 use Rattle.cn_renamer.proofs.checking.CheckFault.status.Goals as goal
 
 pub returns-in-DuplicateClient : goal.returns-in-DuplicateClient

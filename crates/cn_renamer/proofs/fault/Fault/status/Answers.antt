@@ -1,4 +1,4 @@
-use Rattle.std.proofs.Common.{rules}
+use Rattle.cn_renamer.proofs.Common.{rules}
 use Rattle.cn_renamer.proofs.fault.Fault.status.Goals as goal
 
 pub returns-in-Refused : goal.returns-in-Refused

@@ -1,4 +1,4 @@
-use Rattle.std.proofs.Common.{rules}
+use Rattle.cn_renamer.proofs.Common.{rules}
 use Rattle.cn_renamer.proofs.replaying.ReplayFaultFromScheduleFault.from.Goals as goal
 
 pub returns-in_default : goal.returns-in_default

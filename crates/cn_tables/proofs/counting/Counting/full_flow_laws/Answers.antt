@@ -1,5 +1,4 @@
-use Rattle.std.proofs.Common.{subst}
-use Rattle.cn_tables.specs.Table.{IsWellFormed}
+use Rattle.cn_tables.proofs.Common.{subst, IsWellFormed}
 use Rattle.cn_tables.specs.Network.{Network}
 use Rattle.cn_tables.proofs.Flow.{full-flow-draft, full-flow-exists, full-flow-paths, full-flow-unique}
 use Rattle.cn_tables.proofs.Few.{full-flow-few}

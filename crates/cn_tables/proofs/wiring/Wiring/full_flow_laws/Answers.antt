@@ -1,4 +1,4 @@
-use Rattle.cn_tables.specs.Table.{IsWellFormed}
+use Rattle.cn_tables.proofs.Common.{IsWellFormed}
 use Rattle.cn_tables.proofs.Flow.{full-flow-draft, full-flow-exists, full-flow-paths, full-flow-unique}
 use Rattle.cn_tables.proofs.Few.{full-flow-few}
 use Rattle.cn_tables.proofs.Conserve.{full-flow-sum}

@@ -1,7 +1,4 @@
-use Rattle.cn_texts.proofs.Common.{[], IfErr, MatchResult, HasRead, records_of}
-use Rattle.cn_texts.specs.Grants.Printed.{IsNamedList}
-use Rattle.cn_texts.specs.Reading.Bounds.{bounds_of}
-use Rattle.cn_texts.specs.Grants.TightList.{IsFlaw, IsOutside, IsTightList}
+use Rattle.cn_texts.proofs.Common.{[], IfErr, MatchResult, HasRead, records_of, IsNamedList, bounds_of, IsFlaw, IsOutside, IsTightList}
 use Rattle.cn_texts.proofs.GrantLemmas.TightFacts.{exact}
 use Rattle.cn_texts.proofs.ReadingLemmas.FirstFaults.{known-map}
 use Rattle.cn_texts.proofs.grants.list.named_grants_within.Goals as goal

@@ -1,5 +1,4 @@
-use Rattle.cn_texts.proofs.Common.{refl, arith, inl}
-use Rattle.csv.specs.Records.{fields_of}
+use Rattle.cn_texts.proofs.Common.{refl, arith, inl, fields_of}
 use Rattle.cn_texts.proofs.GrantLemmas.CheckedGrants.{form-back, form-full}
 use Rattle.cn_texts.proofs.grants.list.next_grant.Goals as goal
 use Rattle.cn_texts.proofs.grants.list.next_grant.Goals.{then-grant-latest-via-then-grant-latest, then-grant-latest-via-else-grant-latest+then-at-most}

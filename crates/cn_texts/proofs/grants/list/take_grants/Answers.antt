@@ -1,8 +1,5 @@
-use Rattle.cn_texts.proofs.Common.{◌≡◌, ◌+◌, ◌∷◌, ◌++◌, [], List, None, ap, length, arith, length-append, append-nil, append_assoc, inl, inr, subst, sym, ◌∙◌, HasRead, Record, records_of}
-use Rattle.std.proofs.lemmas.Result.{err_from_is_err_and}
-use Rattle.cn_texts.specs.Grants.Granted.{form_cause}
+use Rattle.cn_texts.proofs.Common.{◌≡◌, ◌+◌, ◌∷◌, ◌++◌, [], List, None, ap, length, arith, length-append, append-nil, append_assoc, inl, inr, subst, sym, ◌∙◌, HasRead, Record, records_of, err_from_is_err_and, form_cause, Granted}
 use Rattle.cn_texts.specs.Grants.TightList.{IsOfReading, header_cause, record_cause}
-use Rattle.cn_texts.specs.declared.grants.record.Granted.{Granted}
 use Rattle.cn_texts.proofs.GrantLemmas.CheckedGrants.{form-none, many-clients}
 use Rattle.cn_texts.proofs.GrantLemmas.GrantRecords.{at-grants, first-flaw, follow-more, follow-none, form-first, taken-end, taken-fresh, taken-header, twice-flaw}
 use Rattle.cn_texts.proofs.ReadingLemmas.RecordLists.{read-first}

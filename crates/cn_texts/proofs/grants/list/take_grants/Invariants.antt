@@ -1,6 +1,4 @@
-use Rattle.cn_texts.proofs.Common.{◌≡◌, ◌≤◌, ◌+◌, ◌++◌, ℕ, List, [], HasRead, IsPlain, Record}
-use Rattle.cn_texts.specs.Grants.Checked.{IsChecked, count_of}
-use Rattle.cn_texts.specs.declared.grants.record.Granted.{Granted}
+use Rattle.cn_texts.proofs.Common.{◌≡◌, ◌≤◌, ◌+◌, ◌++◌, ℕ, List, [], HasRead, IsPlain, Record, IsChecked, count_of, Granted}
 use Rattle.cn_texts.proofs.GrantLemmas.GrantRecords.{AreTaken, Follow}
 use Rattle.cn_texts.proofs.grants.list.take_grants.Given as goal
 

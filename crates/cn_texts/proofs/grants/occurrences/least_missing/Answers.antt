@@ -1,6 +1,4 @@
-use Rattle.cn_texts.proofs.Common.{length, length-map, get_or-map, sym, ◌∙◌, arith}
-use Rattle.cn_texts.specs.Grants.Occurrences.{numbers_of}
-use Rattle.cn_texts.specs.declared.grants.occurrences.Occurrence.{Occurrence}
+use Rattle.cn_texts.proofs.Common.{length, length-map, get_or-map, sym, ◌∙◌, arith, numbers_of, Occurrence}
 use Rattle.cn_texts.proofs.GrantLemmas.Repeats.{missing-there, occurrence, own-more, own-there}
 use Rattle.cn_texts.proofs.grants.occurrences.least_missing.Goals as goal
 

@@ -1,5 +1,4 @@
-use Rattle.cn_texts.proofs.Common.{◌≡◌, ◌<◌, ℕ, get_or}
-use Rattle.cn_texts.specs.Grants.Occurrences.{numbers_of}
+use Rattle.cn_texts.proofs.Common.{◌≡◌, ◌<◌, ℕ, get_or, numbers_of}
 use Rattle.cn_texts.proofs.grants.occurrences.least_missing.Given as goal
 
 abbrev pub invariant-loop-at : goal.invariant-loop-at

@@ -1,9 +1,4 @@
-use Rattle.cn_texts.proofs.Common.{◌≡◌, ◌+◌, ◌++◌, ◌∙◌, ℕ, Bool, List, [], ap, append_assoc, append-nil, arith, drop, length, refl, subst, sym, take, sum_by-drop_more}
-use Rattle.cn_spec.specs.Sums.{when}
-use Rattle.cn_texts.specs.declared.reading.batch.BatchEpoch.{BatchEpoch}
-use Rattle.cn_ledger.specs.declared.record.EpochRecord.{EpochRecord}
-use Rattle.cn_texts.specs.Grants.ListText.{grant_lines}
-use Rattle.cn_texts.specs.Writing.EpochRecords.{AreRecordsOf}
+use Rattle.cn_texts.proofs.Common.{◌≡◌, ◌+◌, ◌++◌, ◌∙◌, ℕ, Bool, List, [], ap, append_assoc, append-nil, arith, drop, length, refl, subst, sym, take, sum_by-drop_more, when, BatchEpoch, EpochRecord, grant_lines, AreRecordsOf}
 use Rattle.cn_texts.proofs.WritingLemmas.Putting.{put-none, put-same, put-then}
 use Rattle.cn_texts.proofs.WritingLemmas.RecordLines.{FirstRecord, first-record, last-record}
 use Rattle.cn_texts.proofs.grants.text.send_all_names.Invariants.{lines}

@@ -1,8 +1,4 @@
-use Rattle.cn_texts.proofs.Common.{◌≡◌, ◌++◌, ℕ, Bool, List, drop, length, flat_map, Puts}
-use Rattle.cn_ledger.specs.declared.record.EpochRecord.{EpochRecord}
-use Rattle.cn_texts.specs.Reading.Batch.{clients_of_epochs}
-use Rattle.cn_texts.specs.Grants.ListText.{grant_lines}
-use Rattle.cn_texts.specs.Writing.EpochRecords.{AreRecordsOf}
+use Rattle.cn_texts.proofs.Common.{◌≡◌, ◌++◌, ℕ, Bool, List, drop, length, flat_map, Puts, EpochRecord, clients_of_epochs, grant_lines, AreRecordsOf}
 use Rattle.cn_texts.proofs.grants.text.send_all_names.Given as goal
 
 abbrev pub lines : List EpochRecord → List ℕ

@@ -1,5 +1,4 @@
-use Rattle.cn_texts.proofs.Common.{arith, length, slice_index}
-use Rattle.cn_texts.specs.Grants.ListText.{grant_line}
+use Rattle.cn_texts.proofs.Common.{arith, length, slice_index, grant_line}
 use Rattle.cn_texts.proofs.WritingLemmas.Putting.{put-line, put-lines, put-none}
 use Rattle.cn_texts.proofs.grants.text.send_names.Goals as goal
 

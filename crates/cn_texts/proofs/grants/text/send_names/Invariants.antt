@@ -1,5 +1,4 @@
-use Rattle.cn_texts.specs.Grants.ListText.{grant_lines}
-use Rattle.cn_texts.proofs.Common.{Puts}
+use Rattle.cn_texts.proofs.Common.{grant_lines, Puts}
 use Rattle.cn_texts.proofs.grants.text.send_names.Given as goal
 
 abbrev pub invariant-loop-name : goal.invariant-loop-name

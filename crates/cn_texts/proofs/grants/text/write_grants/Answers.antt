@@ -1,4 +1,4 @@
-use Rattle.cn_texts.specs.Grants.ListText.{grants_text}
+use Rattle.cn_texts.proofs.Common.{grants_text}
 use Rattle.cn_texts.proofs.WritingLemmas.Putting.{put-all, put-then}
 use Rattle.cn_texts.proofs.grants.text.write_grants.Goals as goal
 

@@ -1,7 +1,4 @@
-use Rattle.cn_texts.proofs.Common.{arith, get_or, map, sym, get_or-map, length-map}
-use Rattle.cn_texts.specs.declared.grants.epochs.NamedEpoch.{NamedEpoch}
-use Rattle.cn_texts.specs.Grants.Printed.{with_shares}
-use Rattle.cn_texts.specs.Grants.TightText.{tight_line}
+use Rattle.cn_texts.proofs.Common.{arith, get_or, map, sym, get_or-map, length-map, NamedEpoch, with_shares, tight_line}
 use Rattle.cn_texts.proofs.WritingLemmas.Putting.{put-last, put-next, put-none}
 use Rattle.cn_texts.proofs.grants.tight.send_named_epochs.Goals as goal
 

@@ -1,6 +1,4 @@
-use Rattle.cn_texts.proofs.Common.{map, take, flat_map, Puts}
-use Rattle.cn_texts.specs.Grants.Printed.{with_shares}
-use Rattle.cn_texts.specs.Grants.TightText.{tight_line}
+use Rattle.cn_texts.proofs.Common.{map, take, flat_map, Puts, with_shares, tight_line}
 use Rattle.cn_texts.proofs.grants.tight.send_named_epochs.Given as goal
 
 abbrev pub invariant-loop-epoch : goal.invariant-loop-epoch

@@ -1,6 +1,4 @@
-use Rattle.cn_texts.proofs.Common.{◌≡◌, ◌∷◌, ◌++◌, ◌∙◌, ◌+◌, [], ℕ, ap, arith, decimal, map, sym, range_with_len, flat_map_more, share}
-use Rattle.std.proofs.lemmas.List.FromFn.{map-range_with_len_more}
-use Rattle.cn_texts.specs.Grants.TightText.{tight_counts}
+use Rattle.cn_texts.proofs.Common.{◌≡◌, ◌∷◌, ◌++◌, ◌∙◌, ◌+◌, [], ℕ, ap, arith, decimal, map, sym, range_with_len, flat_map_more, share, map-range_with_len_more, tight_counts}
 use Rattle.cn_texts.proofs.WritingLemmas.Putting.{put-none, put-same, put-then}
 use Rattle.cn_texts.proofs.grants.tight.send_shares.Goals as goal
 

@@ -1,5 +1,4 @@
-use Rattle.cn_texts.proofs.Common.{map, range_with_len, share, Puts}
-use Rattle.cn_texts.specs.Grants.TightText.{tight_counts}
+use Rattle.cn_texts.proofs.Common.{map, range_with_len, share, Puts, tight_counts}
 use Rattle.cn_texts.proofs.grants.tight.send_shares.Given as goal
 
 abbrev pub invariant-loop-exit : goal.invariant-loop-exit

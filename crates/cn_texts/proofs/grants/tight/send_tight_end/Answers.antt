@@ -1,4 +1,4 @@
-use Rattle.cn_texts.specs.Grants.TightText.{tight_end}
+use Rattle.cn_texts.proofs.Common.{tight_end}
 use Rattle.cn_texts.proofs.WritingLemmas.Putting.{put-then}
 use Rattle.cn_texts.proofs.grants.tight.send_tight_end.Goals as goal
 

@@ -1,4 +1,4 @@
-use Rattle.cn_texts.specs.Grants.TightText.{tight_head}
+use Rattle.cn_texts.proofs.Common.{tight_head}
 use Rattle.cn_texts.proofs.WritingLemmas.Putting.{put-then}
 use Rattle.cn_texts.proofs.grants.tight.send_tight_head.Goals as goal
 

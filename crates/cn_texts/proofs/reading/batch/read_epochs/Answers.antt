@@ -1,5 +1,4 @@
-use Rattle.cn_texts.proofs.Common.{arith, refl}
-use Rattle.std.proofs.lemmas.Result.{IfOk-weaker, err_from_is_err_and}
+use Rattle.cn_texts.proofs.Common.{arith, refl, IfOk-weaker, err_from_is_err_and}
 use Rattle.cn_texts.proofs.ReadingLemmas.Ahead.{after-header, at-end, goes-on, next-ahead, next-fault, same-header, stretch-fault}
 use Rattle.cn_texts.proofs.ReadingLemmas.Told.{read-stops}
 use Rattle.cn_texts.proofs.reading.batch.read_epochs.Goals as goal

@@ -1,6 +1,4 @@
-use Rattle.cn_texts.proofs.Common.{◌+◌, ◌-◌, ℕ, List, IsPlain}
-use Rattle.cn_texts.specs.Reading.Gathered.{StaysServable}
-use Rattle.cn_texts.specs.Reading.Stretch.{HasHeader, HasSameHeader}
+use Rattle.cn_texts.proofs.Common.{◌+◌, ◌-◌, ℕ, List, IsPlain, StaysServable, HasHeader, HasSameHeader}
 use Rattle.cn_texts.proofs.ReadingLemmas.Ahead.{HasTaken}
 use Rattle.cn_texts.proofs.reading.batch.read_epochs.Given as goal
 

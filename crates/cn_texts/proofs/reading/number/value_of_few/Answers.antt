@@ -1,7 +1,5 @@
-use Rattle.cn_texts.proofs.Common.{◌∙◌, get_or, sym, arith}
-use Rattle.std.specs.Char.{is_ascii_digit}
+use Rattle.cn_texts.proofs.Common.{◌∙◌, get_or, sym, arith, is_ascii_digit, list_all_more}
 use Rattle.std.proofs.lemmas.Int.Digits.{digits_value_more}
-use Rattle.std.proofs.lemmas.List.Folds.{list_all_more}
 use Rattle.cn_texts.proofs.ReadingLemmas.Digits.{both-are, sum-fits, sum-more, worth-of}
 use Rattle.cn_texts.proofs.reading.number.value_of_few.Goals as goal
 

@@ -1,6 +1,4 @@
-use Rattle.cn_texts.proofs.Common.{◌≡◌, ◌+◌, ◌*◌, ◌≤◌, ◌^◌, true, take, list_all}
-use Rattle.std.specs.Char.{is_ascii_digit}
-use Rattle.std.specs.Str.Parse.{digits_value}
+use Rattle.cn_texts.proofs.Common.{◌≡◌, ◌+◌, ◌*◌, ◌≤◌, ◌^◌, true, take, list_all, is_ascii_digit, digits_value}
 use Rattle.cn_texts.proofs.reading.number.value_of_few.Given as goal
 
 -- a byte counts at most 15, so the sum of n bytes is at most 15 * (10 ^ n - 1) / 9: the last fact, with no division

@@ -1,5 +1,4 @@
-use Rattle.cn_texts.proofs.Common.{◌≡◌, ◌-◌, arith, drop, length, sym, take_rest, nat_tests}
-use Rattle.std.specs.Char.{digit_value}
+use Rattle.cn_texts.proofs.Common.{◌≡◌, ◌-◌, arith, drop, length, sym, take_rest, nat_tests, digit_value}
 use Rattle.cn_texts.proofs.ReadingLemmas.Digits.{IsLed, large-whole, led-if-longer, led-if-shorter, small-whole, with_lead}
 use Rattle.cn_texts.proofs.reading.number.value_of_many.Goals as goal
 use Rattle.cn_texts.proofs.reading.number.value_of_many.Goals.{else-field-eq-MOST_DIGITS, then-field-eq-MOST_DIGITS}

@@ -1,5 +1,4 @@
-use Rattle.cn_texts.proofs.Common.{◌∙◌, inl}
-use Rattle.csv.specs.Records.{fields_of}
+use Rattle.cn_texts.proofs.Common.{◌∙◌, inl, fields_of}
 use Rattle.cn_texts.proofs.ReadingLemmas.RecordLists.{read-either}
 use Rattle.cn_texts.proofs.reading.records.next_record.Goals as goal
 

@@ -1,8 +1,5 @@
-use Rattle.cn_texts.proofs.Common.{◌≡◌, ◌∙◌, ap, ℕ, List, Option, IfSome, [], option_map}
-use Rattle.csv.specs.Reading.{ChangesHeaders, default_config, reader_config, reader_state, source_of, strip_bom}
+use Rattle.cn_texts.proofs.Common.{◌≡◌, ◌∙◌, ap, ℕ, List, Option, IfSome, [], option_map, ChangesHeaders, default_config, reader_config, reader_state, source_of, strip_bom, Reader, HasRead}
 use Rattle.csv.specs.declared.parser.State.TheVariants as st
-use Rattle.csv.specs.declared.reader.Reader.{Reader}
-use Rattle.cn_texts.specs.Reading.Records.{HasRead}
 use Rattle.cn_texts.proofs.ReadingLemmas.RecordLists.{opened}
 use Rattle.cn_texts.proofs.reading.records.open_records.Goals as goal
 

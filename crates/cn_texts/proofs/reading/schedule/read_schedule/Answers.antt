@@ -1,5 +1,4 @@
-use Rattle.cn_texts.proofs.Common.{[], MatchResult, HasRead, records_of}
-use Rattle.cn_texts.specs.Reading.Schedule.{IsSchedule, IsScheduleFault}
+use Rattle.cn_texts.proofs.Common.{[], MatchResult, HasRead, records_of, IsSchedule, IsScheduleFault}
 use Rattle.cn_texts.proofs.ReadingLemmas.FirstFaults.{known-map}
 use Rattle.cn_texts.proofs.reading.schedule.read_schedule.Goals as goal
 

@@ -1,7 +1,4 @@
-use Rattle.cn_texts.proofs.Common.{◌≡◌, true, refl, inl, nat_lt, lt-ltb, MOST_RECORDS}
-use Rattle.std.proofs.lemmas.Result.{err_from_is_err_and}
-use Rattle.csv.specs.Records.{fields_of}
-use Rattle.cn_texts.specs.Reading.Schedule.{cause_of_fault}
+use Rattle.cn_texts.proofs.Common.{◌≡◌, true, refl, inl, nat_lt, lt-ltb, MOST_RECORDS, err_from_is_err_and, fields_of, cause_of_fault}
 use Rattle.cn_texts.proofs.ReadingLemmas.Told.{told-other}
 use Rattle.cn_texts.proofs.reading.schedule.take_command.Goals as goal
 

@@ -1,7 +1,6 @@
-use Rattle.cn_texts.proofs.Common.{◌≡◌, ◌∷◌, ◌++◌, [], refl, arith, length-append, inl, inr, rules, true, records_of}
-use Rattle.std.specs.Result.{is_ok}
+use Rattle.cn_texts.proofs.Common.{◌≡◌, ◌∷◌, ◌++◌, [], refl, arith, length-append, inl, inr, rules, true, records_of, is_ok, cause_of_fault}
 use Rattle.cn_texts.specs.declared.reading.schedule_fault.ScheduleCause.TheVariants.{Memory}
-use Rattle.cn_texts.specs.Reading.Schedule.{IsOfReading, cause_of_fault, header_cause, record_cause}
+use Rattle.cn_texts.specs.Reading.Schedule.{IsOfReading, header_cause, record_cause}
 use Rattle.cn_texts.proofs.ReadingLemmas.FirstFaults.{stop_at, stop-before}
 use Rattle.cn_texts.proofs.ReadingLemmas.Told.{told-other}
 use Rattle.cn_texts.proofs.ReadingLemmas.ScheduleRecords.{taken_all, taken-header, taken-next}

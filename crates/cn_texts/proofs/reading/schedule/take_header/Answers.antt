@@ -1,5 +1,4 @@
-use Rattle.cn_texts.proofs.Common.{[], refl}
-use Rattle.csv.specs.Records.{fields_of}
+use Rattle.cn_texts.proofs.Common.{[], refl, fields_of}
 use Rattle.cn_texts.specs.Reading.Schedule.{IsOfReading, header_cause, record_cause}
 use Rattle.cn_texts.specs.declared.reading.schedule_fault.ScheduleCause.TheVariants.{Header}
 use Rattle.cn_texts.proofs.ReadingLemmas.FirstFaults.{no_header, nothing}

@@ -1,5 +1,4 @@
-use Rattle.cn_texts.proofs.Common.{length, ◌-◌, ◌≤◌, take}
-use Rattle.std.specs.Io.KnownBytes.{Appends}
+use Rattle.cn_texts.proofs.Common.{length, ◌-◌, ◌≤◌, take, Appends}
 use Rattle.cn_texts.proofs.writing.emitting.write_whole.Given as goal
 
 abbrev pub invariant-loop-written : goal.invariant-loop-written

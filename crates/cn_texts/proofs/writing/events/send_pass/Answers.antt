@@ -1,4 +1,4 @@
-use Rattle.cn_texts.specs.Writing.Replay.{moved_line}
+use Rattle.cn_texts.proofs.Common.{moved_line}
 use Rattle.cn_texts.proofs.WritingLemmas.Putting.{put-then}
 use Rattle.cn_texts.proofs.writing.events.send_pass.Goals as goal
 

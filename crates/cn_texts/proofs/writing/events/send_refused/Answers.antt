@@ -1,7 +1,5 @@
-use Rattle.cn_texts.proofs.Common.{ap, sym}
+use Rattle.cn_texts.proofs.Common.{ap, sym, EnterRefused, enter_line}
 use Rattle.cn_ledger.specs.declared.reply.EnterFault.{EnterFault}
-use Rattle.cn_ledger.specs.declared.reply.Reply.TheVariants.{EnterRefused}
-use Rattle.cn_texts.specs.Writing.Replay.{enter_line}
 use Rattle.cn_texts.proofs.WritingLemmas.Putting.{put-same}
 use Rattle.cn_texts.proofs.writing.events.send_refused.Goals as goal
 

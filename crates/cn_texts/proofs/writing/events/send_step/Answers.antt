@@ -1,8 +1,6 @@
-use Rattle.cn_texts.proofs.Common.{◌≡◌, ◌∙◌, ap, sym}
-use Rattle.cn_ledger.specs.declared.reply.Reply.TheVariants.{StepRefused}
+use Rattle.cn_texts.proofs.Common.{◌≡◌, ◌∙◌, ap, sym, StepRefused, step_line}
 use Rattle.cn_ledger.specs.declared.reply.StepFault.{StepFault}
 use Rattle.cn_ledger.specs.declared.reply.StepFault.TheVariants.{HasName, Stranger}
-use Rattle.cn_texts.specs.Writing.Replay.{step_line}
 use Rattle.cn_texts.proofs.WritingLemmas.Putting.{put-same}
 use Rattle.cn_texts.proofs.writing.events.send_step.Goals as goal
 

@@ -1,4 +1,4 @@
-use Rattle.cn_texts.specs.Writing.Text.{heading}
+use Rattle.cn_texts.proofs.Common.{heading}
 use Rattle.cn_texts.proofs.WritingLemmas.Putting.{put-then}
 use Rattle.cn_texts.proofs.writing.line.send_heading.Goals as goal
 

@@ -1,5 +1,4 @@
-use Rattle.cn_texts.proofs.Common.{◌+◌, ◌∙◌, ◌-◌, ap₂, sym, zero-add, share}
-use Rattle.std.proofs.lemmas.List.FromFn.{get_or-map-range_with_len}
+use Rattle.cn_texts.proofs.Common.{◌+◌, ◌∙◌, ◌-◌, ap₂, sym, zero-add, share, get_or-map-range_with_len}
 use Rattle.cn_texts.proofs.writing.outcome.count_after.Goals as goal
 
 pub returns : goal.returns

@@ -1,5 +1,4 @@
-use Rattle.cn_texts.proofs.Common.{shares_after, Puts}
-use Rattle.cn_texts.specs.Writing.Outcome.{exit_lines}
+use Rattle.cn_texts.proofs.Common.{shares_after, Puts, exit_lines}
 use Rattle.cn_texts.proofs.writing.outcome.send_counts.Given as goal
 
 abbrev pub invariant-loop-exit : goal.invariant-loop-exit

@@ -1,5 +1,4 @@
-use Rattle.cn_texts.proofs.Common.{arith, slice_index}
-use Rattle.cn_texts.specs.Writing.Outcome.{exit_line}
+use Rattle.cn_texts.proofs.Common.{arith, slice_index, exit_line}
 use Rattle.cn_texts.proofs.WritingLemmas.Putting.{put-line, put-lines, put-none}
 use Rattle.cn_texts.proofs.writing.outcome.send_exits.Goals as goal
 

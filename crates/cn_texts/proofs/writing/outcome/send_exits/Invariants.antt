@@ -1,5 +1,4 @@
-use Rattle.cn_texts.specs.Writing.Outcome.{exit_lines}
-use Rattle.cn_texts.proofs.Common.{Puts}
+use Rattle.cn_texts.proofs.Common.{exit_lines, Puts}
 use Rattle.cn_texts.proofs.writing.outcome.send_exits.Given as goal
 
 abbrev pub invariant-loop-exit : goal.invariant-loop-exit

@@ -1,5 +1,4 @@
-use Rattle.cn_texts.specs.Writing.Outcome.{name_lines}
-use Rattle.cn_texts.proofs.Common.{Puts}
+use Rattle.cn_texts.proofs.Common.{name_lines, Puts}
 use Rattle.cn_texts.proofs.writing.outcome.send_holders.Given as goal
 
 abbrev pub invariant-loop-name : goal.invariant-loop-name

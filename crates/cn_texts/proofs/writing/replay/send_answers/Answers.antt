@@ -1,9 +1,6 @@
-use Rattle.cn_texts.proofs.Common.{◌≡◌, ◌∙◌, ap, arith, get_or, sym, zip, All-get_or}
+use Rattle.cn_texts.proofs.Common.{◌≡◌, ◌∙◌, ap, arith, get_or, sym, zip, All-get_or, Answer, Command, IsShowable, answer_line}
 use Rattle.std.proofs.lemmas.Slice.Zip.{get_or-zip, length-zip}
-use Rattle.cn_ledger.specs.declared.answer.Answer.{Answer}
-use Rattle.cn_ledger.specs.declared.command.Command.{Command}
 use Rattle.cn_ledger.specs.declared.command.Command.TheVariants.{Enter}
-use Rattle.cn_texts.specs.Writing.Replay.{IsShowable, answer_line}
 use Rattle.cn_texts.proofs.WritingLemmas.Putting.{put-last, put-next, put-none}
 use Rattle.cn_texts.proofs.writing.replay.send_answers.Goals as goal
 

@@ -1,5 +1,4 @@
-use Rattle.cn_texts.proofs.Common.{take, flat_map, zip, Puts}
-use Rattle.cn_texts.specs.Writing.Replay.{answer_line}
+use Rattle.cn_texts.proofs.Common.{take, flat_map, zip, Puts, answer_line}
 use Rattle.cn_texts.proofs.writing.replay.send_answers.Given as goal
 
 abbrev pub invariant-loop-position : goal.invariant-loop-position

@@ -1,4 +1,4 @@
-use Rattle.cn_texts.specs.Writing.Replay.{end_line}
+use Rattle.cn_texts.proofs.Common.{end_line}
 use Rattle.cn_texts.proofs.WritingLemmas.Putting.{put-then}
 use Rattle.cn_texts.proofs.writing.replay.send_end.Goals as goal
 

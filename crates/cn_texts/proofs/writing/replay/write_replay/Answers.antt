@@ -1,5 +1,4 @@
-use Rattle.cn_texts.proofs.Common.{arith}
-use Rattle.cn_texts.specs.Writing.Replay.{replay_text}
+use Rattle.cn_texts.proofs.Common.{arith, replay_text}
 use Rattle.cn_texts.proofs.WritingLemmas.Putting.{put-all, put-then}
 use Rattle.cn_texts.proofs.writing.replay.write_replay.Goals as goal
 

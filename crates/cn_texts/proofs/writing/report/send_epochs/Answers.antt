@@ -1,10 +1,4 @@
-use Rattle.cn_texts.proofs.Common.{◌≡◌, ◌+◌, ◌++◌, ◌∙◌, ℕ, Bool, List, [], ap, append_assoc, append-nil, arith, drop, length, refl, subst, sym, take, flat_map, sum_by-drop_more, shares_after}
-use Rattle.cn_spec.specs.Sums.{when}
-use Rattle.cn_texts.specs.declared.reading.batch.BatchEpoch.{BatchEpoch}
-use Rattle.cn_ledger.specs.declared.record.EpochRecord.{EpochRecord}
-use Rattle.cn_texts.specs.Writing.Outcome.{exit_lines, name_lines}
-use Rattle.cn_texts.specs.Writing.EpochRecords.{AreRecordsOf}
-use Rattle.cn_texts.specs.Writing.Report.{epoch_line, epoch_lines}
+use Rattle.cn_texts.proofs.Common.{◌≡◌, ◌+◌, ◌++◌, ◌∙◌, ℕ, Bool, List, [], ap, append_assoc, append-nil, arith, drop, length, refl, subst, sym, take, flat_map, sum_by-drop_more, shares_after, when, BatchEpoch, EpochRecord, exit_lines, name_lines, AreRecordsOf, epoch_line, epoch_lines}
 use Rattle.cn_texts.proofs.WritingLemmas.Putting.{put-none, put-same, put-then}
 use Rattle.cn_texts.proofs.WritingLemmas.RecordLines.{FirstRecord, first-record, last-record, when-le}
 use Rattle.cn_texts.proofs.writing.report.send_epochs.Goals as goal

@@ -1,9 +1,4 @@
-use Rattle.cn_spec.specs.declared.limits.TheConstants.{MOST_NAMED}
-use Rattle.cn_texts.proofs.Common.{◌≡◌, ◌+◌, ◌++◌, ◌≤◌, ℕ, List, drop, length, flat_map, Puts}
-use Rattle.cn_ledger.specs.declared.record.EpochRecord.{EpochRecord}
-use Rattle.cn_texts.specs.Reading.Batch.{clients_of_epochs}
-use Rattle.cn_texts.specs.Writing.EpochRecords.{AreRecordsOf}
-use Rattle.cn_texts.specs.Writing.Report.{epoch_lines}
+use Rattle.cn_texts.proofs.Common.{MOST_NAMED, ◌≡◌, ◌+◌, ◌++◌, ◌≤◌, ℕ, List, drop, length, flat_map, Puts, EpochRecord, clients_of_epochs, AreRecordsOf, epoch_lines}
 use Rattle.cn_texts.proofs.writing.report.send_epochs.Given as goal
 
 -- the records of the epochs so far are put

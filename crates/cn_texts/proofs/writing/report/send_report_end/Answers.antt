@@ -1,4 +1,4 @@
-use Rattle.cn_texts.specs.Writing.Report.{report_end}
+use Rattle.cn_texts.proofs.Common.{report_end}
 use Rattle.cn_texts.proofs.WritingLemmas.Putting.{put-then}
 use Rattle.cn_texts.proofs.writing.report.send_report_end.Goals as goal
 

@@ -1,5 +1,4 @@
-use Rattle.cn_texts.proofs.Common.{◌∙◌, ap₂, arith, sym}
-use Rattle.cn_texts.specs.Writing.Report.{report_end, report_text}
+use Rattle.cn_texts.proofs.Common.{◌∙◌, ap₂, arith, sym, report_end, report_text}
 use Rattle.cn_texts.proofs.WritingLemmas.RecordLines.{as-many-records}
 use Rattle.cn_texts.proofs.WritingLemmas.Putting.{put-all, put-same, put-then}
 use Rattle.cn_texts.proofs.writing.report.write_report.Goals as goal

@@ -1,8 +1,6 @@
-use Rattle.cn_texts.proofs.Common.{◌≡◌, ◌∙◌, ◌<◌, ◌≤◌, ℕ, ap, arith, get_or, length, sym, zero-add, enumerate_from}
-use Rattle.std.proofs.lemmas.List.FromFn.{get_or-enumerate_from, length-enumerate_from}
+use Rattle.cn_texts.proofs.Common.{◌≡◌, ◌∙◌, ◌<◌, ◌≤◌, ℕ, ap, arith, get_or, length, sym, zero-add, enumerate_from, get_or-enumerate_from, length-enumerate_from, wire_line}
 use Rattle.cn_tables.specs.declared.end.End.{End}
 use Rattle.cn_tables.specs.declared.end.End.TheVariants.{Balancer}
-use Rattle.cn_texts.specs.Writing.Wiring.{wire_line}
 use Rattle.cn_texts.proofs.WritingLemmas.Putting.{put-last, put-next, put-none}
 use Rattle.cn_texts.proofs.writing.wiring.send_wires.Goals as goal
 

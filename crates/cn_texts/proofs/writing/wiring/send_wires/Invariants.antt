@@ -1,5 +1,4 @@
-use Rattle.cn_texts.proofs.Common.{take, enumerate_from, flat_map, Puts}
-use Rattle.cn_texts.specs.Writing.Wiring.{wire_line}
+use Rattle.cn_texts.proofs.Common.{take, enumerate_from, flat_map, Puts, wire_line}
 use Rattle.cn_texts.proofs.writing.wiring.send_wires.Given as goal
 
 abbrev pub invariant-loop-wire : goal.invariant-loop-wire

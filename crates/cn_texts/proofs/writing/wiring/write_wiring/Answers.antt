@@ -1,5 +1,4 @@
-use Rattle.cn_texts.proofs.Common.{◌≡◌, ◌+◌, ◌*◌, ap, arith, length}
-use Rattle.cn_texts.specs.Writing.Wiring.{wires_line, wiring_text}
+use Rattle.cn_texts.proofs.Common.{◌≡◌, ◌+◌, ◌*◌, ap, arith, length, wires_line, wiring_text}
 use Rattle.cn_texts.proofs.WritingLemmas.Putting.{put-all, put-same, put-then}
 use Rattle.cn_texts.proofs.writing.wiring.write_wiring.Goals as goal
 

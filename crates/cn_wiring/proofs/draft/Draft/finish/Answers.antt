@@ -1,8 +1,4 @@
-use Rattle.std.proofs.Common.{◌≡◌, ℕ, List, length, map, refl, ap, ◌∙◌}
-use Rattle.cn_spec.specs.Sums.{times}
-use Rattle.cn_tables.specs.Plan.{Plan, loose}
-use Rattle.cn_tables.specs.Table.{Table, balancer_of, plan_of_table}
-use Rattle.cn_wiring.specs.InsideDraft.{plan_of}
+use Rattle.cn_wiring.proofs.Common.{◌≡◌, ℕ, List, length, map, refl, ap, ◌∙◌, times, Plan, loose, Table, balancer_of, plan_of_table, plan_of}
 use Rattle.cn_wiring.proofs.Close.{closed-formed, closed-depth, out-is}
 use Rattle.cn_wiring.proofs.draft.Draft.finish.Goals as goal
 

@@ -1,5 +1,4 @@
-use Rattle.std.proofs.Common.{subst, sym}
-use Rattle.cn_spec.specs.Step.{IsStep}
+use Rattle.cn_wiring.proofs.Common.{subst, sym, IsStep}
 use Rattle.cn_wiring.proofs.Finished.{draft-flow, exits-flow}
 use Rattle.cn_wiring.proofs.draft.Draft.finish_counting.Goals as goal
 

@@ -1,5 +1,4 @@
-use Rattle.cn_tables.specs.Plan.{IsOrderly}
-use Rattle.cn_tables.proofs.CallerLemmas.{flow-exists, flow-unique, paths}
+use Rattle.cn_wiring.proofs.Common.{IsOrderly, flow-exists, flow-unique, paths}
 use Rattle.cn_wiring.proofs.draft.Draft.flow_laws.Goals as goal
 
 pub returns : goal.returns

@@ -1,7 +1,4 @@
-use Rattle.std.proofs.Common.{◌≡◌, ◌<◌, [], ◌∷◌, ◌++◌, length, set, Some, None, arith, rules, sym, ap}
-use Rattle.cn_spec.specs.declared.limits.TheConstants.{MOST_BALANCERS}
-use Rattle.cn_tables.specs.Plan.{AllLoose}
-use Rattle.cn_wiring.specs.InsideDraft.{plan_of}
+use Rattle.cn_wiring.proofs.Common.{◌≡◌, ◌<◌, [], ◌∷◌, ◌++◌, length, set, Some, None, arith, rules, sym, ap, MOST_BALANCERS, AllLoose, plan_of}
 use Rattle.cn_wiring.proofs.Grown.{builds-grown, orderly-grown}
 use Rattle.cn_wiring.proofs.Join.{two-stand, halves-joined, flow-unjoined}
 use Rattle.cn_wiring.proofs.draft.Draft.join.Goals as goal

@@ -1,4 +1,4 @@
-use Rattle.std.proofs.Common.{◌≡◌, ◌++◌, ◌∷◌, [], arith, rules, append_assoc}
+use Rattle.cn_wiring.proofs.Common.{◌≡◌, ◌++◌, ◌∷◌, [], arith, rules, append_assoc}
 use Rattle.cn_wiring.proofs.Layers.{layer-none, layer-next, layer-more, layer-all}
 use Rattle.cn_wiring.proofs.draft.Draft.join_all.Goals as goal
 

@@ -1,4 +1,4 @@
-use Rattle.std.proofs.Common.{rules, ◌≡◌, replicate, None}
+use Rattle.cn_wiring.proofs.Common.{rules, ◌≡◌, replicate, None}
 use Rattle.cn_wiring.proofs.Entries.{loose-entries, level-entries}
 use Rattle.cn_wiring.proofs.draft.Draft.new.Goals as goal
 

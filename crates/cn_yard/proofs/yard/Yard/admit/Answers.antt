@@ -1,5 +1,4 @@
-use Rattle.std.proofs.Common.{◌≡◌, ◌∙◌, ◌<◌, ℕ, List, length, refl, ap, arith, max}
-use Rattle.cn_yard.proofs.Common.{Inside, Keeps, Yard, count_of, lists_of, moved, wire_of}
+use Rattle.cn_yard.proofs.Common.{◌≡◌, ◌∙◌, ◌<◌, ℕ, List, length, refl, ap, arith, max, Inside, Keeps, Yard, count_of, lists_of, moved, wire_of}
 use Rattle.cn_yard.proofs.Bodies.{Relinked, Renamed, admits-renamed, after, free-read, keeps-relinked, keeps-renamed, relinked-by, renamed-by, with_records}
 use Rattle.cn_yard.proofs.Bare.{closed, wires-are}
 use Rattle.cn_yard.proofs.Readers.{kept-count}

@@ -1,4 +1,4 @@
-use Rattle.std.proofs.Common.{◌≡◌, length, rules, vec_len}
+use Rattle.cn_yard.proofs.Common.{◌≡◌, length, rules, vec_len}
 use Rattle.cn_yard.proofs.Bare.{kept-live}
 use Rattle.cn_yard.proofs.Wires.{live}
 use Rattle.cn_yard.proofs.Readers.{there-read}

@@ -1,5 +1,4 @@
-use Rattle.std.proofs.Common.{◌∙◌, ◌<◌, ap, sym, List}
-use Rattle.cn_yard.proofs.Common.{Line, count_of}
+use Rattle.cn_yard.proofs.Common.{◌∙◌, ◌<◌, ap, sym, List, Line, count_of}
 use Rattle.cn_yard.proofs.Bare.{wires-are}
 use Rattle.cn_yard.proofs.Readers.{count-all}
 use Rattle.cn_yard.proofs.yard.Yard.count.Goals as goal

@@ -1,7 +1,4 @@
-use Rattle.std.proofs.Common.{◌≡◌, ◌<◌, ◌≢◌, ℕ, [], length, sym, ◌∙◌, arith, rules}
-use Rattle.cn_yard.specs.Deals.{Deals, out_of}
-use Rattle.cn_yard.proofs.Common.{on}
-use Rattle.cn_yard.specs.Lists.{Moves}
+use Rattle.cn_yard.proofs.Common.{◌≡◌, ◌<◌, ◌≢◌, ℕ, [], length, sym, ◌∙◌, arith, rules, Deals, out_of, on, Moves}
 use Rattle.cn_yard.proofs.Turns.{begins, dealt, either-out, ends, fewer, goes-on, next-stands}
 use Rattle.cn_yard.proofs.Taken.{IsFirst, first-is, none-first}
 use Rattle.cn_yard.proofs.yard.Yard.deal.Goals.{After-wire_of_output, After-yard_laws-in-Some, In_default}

@@ -1,6 +1,4 @@
-use Rattle.std.proofs.Common.{length}
-use Rattle.cn_yard.specs.Deals.{out_of}
-use Rattle.cn_yard.proofs.Common.{on}
+use Rattle.cn_yard.proofs.Common.{length, out_of, on}
 use Rattle.cn_yard.proofs.Turns.{IsDealing}
 use Rattle.cn_yard.proofs.yard.Yard.deal.Given as goal
 

@@ -1,7 +1,4 @@
-use Rattle.std.proofs.Common.{◌≡◌, ◌∙◌, ◌<◌, ℕ, List, [], length, refl, sym, ap, arith, rules, vec_len, false, eqb}
-use Rattle.cn_yard.proofs.Common.{Keeps, Line, count_of, lists_of, nat_tests, on}
-use Rattle.std.proofs.lemmas.List.{nil_from_length}
-use Rattle.cn_yard.specs.Lists.{first_of}
+use Rattle.cn_yard.proofs.Common.{◌≡◌, ◌∙◌, ◌<◌, ℕ, List, [], length, refl, sym, ap, arith, rules, vec_len, false, eqb, Keeps, Line, count_of, lists_of, nat_tests, on, nil_from_length, first_of}
 use Rattle.cn_yard.proofs.Bare.{wires-are}
 use Rattle.cn_yard.proofs.Readers.{count-all, count-read, first-read, kept-count}
 use Rattle.cn_yard.proofs.yard.Yard.first.Goals.{After-count_on}

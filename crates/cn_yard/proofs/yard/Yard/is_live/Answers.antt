@@ -1,5 +1,4 @@
-use Rattle.std.proofs.Common.{◌≡◌, ◌<◌, length, arith, rules, vec_len}
-use Rattle.cn_yard.proofs.Common.{nat_tests}
+use Rattle.cn_yard.proofs.Common.{◌≡◌, ◌<◌, length, arith, rules, vec_len, nat_tests}
 use Rattle.cn_yard.proofs.Bare.{kept-live}
 use Rattle.cn_yard.proofs.Wires.{live}
 use Rattle.cn_yard.proofs.Readers.{kept-record, live-read}

@@ -1,5 +1,4 @@
-use Rattle.std.proofs.Common.{◌≡◌, length, ap, rules, arith, vec_len}
-use Rattle.cn_yard.proofs.Common.{Yard, tokens_in}
+use Rattle.cn_yard.proofs.Common.{◌≡◌, length, ap, rules, arith, vec_len, Yard, tokens_in}
 use Rattle.cn_yard.proofs.Readers.{few-all, tokens-all}
 use Rattle.cn_yard.proofs.yard.Yard.len.Goals as goal
 

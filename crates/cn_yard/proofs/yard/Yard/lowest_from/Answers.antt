@@ -1,6 +1,4 @@
-use Rattle.std.proofs.Common.{◌≡◌, ℕ, ◌/◌, ◌<◌, Bool, false, nat_eq, vec_len, List, [], length, ap, ◌∙◌, arith, rules, sym, subst}
-use Rattle.cn_yard.proofs.Common.{Inside, Keeps, Yard, lists_of, nat_tests, on, yard_of}
-use Rattle.cn_yard.specs.InsideYard.{IsYard}
+use Rattle.cn_yard.proofs.Common.{◌≡◌, ℕ, ◌/◌, ◌<◌, Bool, false, nat_eq, vec_len, List, [], length, ap, ◌∙◌, arith, rules, sym, subst, Inside, Keeps, Yard, lists_of, nat_tests, on, yard_of, IsYard}
 use Rattle.cn_yard.proofs.Readers.{lowest-read, nobody-all, nobody-read, none-read}
 use Rattle.cn_yard.proofs.Bare.{kept-some, wires-are}
 use Rattle.cn_yard.proofs.yard.Yard.lowest_from.Goals as goal

@@ -1,5 +1,4 @@
-use Rattle.std.proofs.Common.{◌<◌, arith}
-use Rattle.cn_yard.proofs.Common.{moved}
+use Rattle.cn_yard.proofs.Common.{◌<◌, arith, moved}
 use Rattle.cn_yard.proofs.Bodies.{Relinked, after, keeps-relinked, moves-relinked, relinked-by}
 use Rattle.cn_yard.proofs.Bare.{closed, kept-live, wires-are}
 use Rattle.cn_yard.proofs.Wires.{live}

@@ -1,6 +1,4 @@
-use Rattle.std.proofs.Common.{◌≡◌, ℕ, [], Vec, Global}
-use Rattle.cn_yard.proofs.Common.{Inside, Line, Record}
-use Rattle.cn_yard.specs.InsideYard.{IsBare}
+use Rattle.cn_yard.proofs.Common.{◌≡◌, ℕ, [], Vec, Global, Inside, Line, Record, IsBare}
 use Rattle.cn_yard.proofs.Bare.{bare-empty, bare-tokens, closed-bare}
 use Rattle.cn_yard.proofs.yard.Yard.new.Goals as goal
 

@@ -1,5 +1,4 @@
-use Rattle.std.proofs.Common.{◌≡◌, ◌∙◌, length, refl, sym, arith, rules, vec_len, true, false, eqb}
-use Rattle.cn_yard.proofs.Common.{nat_tests}
+use Rattle.cn_yard.proofs.Common.{◌≡◌, ◌∙◌, length, refl, sym, arith, rules, vec_len, true, false, eqb, nat_tests}
 use Rattle.cn_yard.proofs.Bare.{kept-live}
 use Rattle.cn_yard.proofs.Wires.{live}
 use Rattle.cn_yard.proofs.Readers.{next-read, wire-read}

@@ -1,8 +1,4 @@
-use Rattle.std.proofs.Common.{◌≡◌, ◌<◌, length, ap, ◌∙◌, arith, rules, vec_len}
-use Rattle.std.proofs.lemmas.List.{get_or_read, with_items_is}
-use Rattle.std.specs.Vec.{with_items}
-use Rattle.cn_yard.proofs.Common.{Record, client_of, moved, wire_of}
-use Rattle.cn_yard.specs.Records.{no_record}
+use Rattle.cn_yard.proofs.Common.{◌≡◌, ◌<◌, length, ap, ◌∙◌, arith, rules, vec_len, get_or_read, with_items_is, with_items, Record, client_of, moved, wire_of, no_record}
 use Rattle.cn_yard.proofs.Bodies.{Relinked, after, keeps-relinked, relinked-by, releases-relinked}
 use Rattle.cn_yard.proofs.Bare.{closed, kept-live}
 use Rattle.cn_yard.proofs.Wires.{live, there-live}

@@ -1,7 +1,5 @@
-use Rattle.std.proofs.Common.{◌≡◌, ◌∙◌, ◌+◌, ◌≤◌, ℕ, List, Vec, Global, refl, ap, arith}
+use Rattle.cn_yard.proofs.Common.{◌≡◌, ◌∙◌, ◌+◌, ◌≤◌, ℕ, List, Vec, Global, refl, ap, arith, MOST_TOKENS, Inside, Keeps, Line, Yard, count_of, lists_of, tokens_in, yard_of}
 use Rattle.std.proofs.lemmas.Result.{on_err_weaker}
-use Rattle.cn_spec.specs.declared.limits.TheConstants.{MOST_TOKENS}
-use Rattle.cn_yard.proofs.Common.{Inside, Keeps, Line, Yard, count_of, lists_of, tokens_in, yard_of}
 use Rattle.cn_yard.proofs.Bare.{closed}
 use Rattle.cn_yard.proofs.Bodies.{Filled, after-fill, filled, filled-by, filled-lists, room-for, unfilled}
 use Rattle.cn_yard.proofs.Changes.{tokens-same}

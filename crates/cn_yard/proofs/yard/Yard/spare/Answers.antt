@@ -1,5 +1,4 @@
-use Rattle.std.proofs.Common.{◌∙◌, ap, List}
-use Rattle.cn_yard.proofs.Common.{Line, count_of}
+use Rattle.cn_yard.proofs.Common.{◌∙◌, ap, List, Line, count_of}
 use Rattle.cn_yard.proofs.yard.Yard.spare.Goals as goal
 
 pub returns : goal.returns

@@ -1,4 +1,4 @@
-use Rattle.std.proofs.Common.{sym}
+use Rattle.cn_yard.proofs.Common.{sym}
 use Rattle.cn_yard.proofs.Bare.{wires-are}
 use Rattle.cn_yard.proofs.yard.Yard.wires.Goals as goal
 

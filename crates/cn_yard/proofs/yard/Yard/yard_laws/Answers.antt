@@ -1,9 +1,8 @@
-use Rattle.std.proofs.Common.{inl, inr, refl, arith}
+use Rattle.cn_yard.proofs.Common.{inl, inr, refl, arith, lists_of}
 use Rattle.cn_yard.proofs.Bare.{bare-times, kept-live, opened}
 use Rattle.cn_yard.proofs.Readers.{few-all, tokens-all}
 use Rattle.cn_yard.proofs.There.{there}
 use Rattle.cn_yard.proofs.Wires.{live, times-most}
-use Rattle.cn_yard.proofs.Common.{lists_of}
 use Rattle.cn_yard.proofs.yard.Yard.yard_laws.Goals as goal
 
 pub returns-clause-once : goal.returns-clause-once

@@ -1,9 +1,4 @@
-use Rattle.std.proofs.Common.{◌≡◌, ℕ, List, arith, ap, sym, ◌∙◌, subst}
-use Rattle.cn_floor.proofs.Common.{IsClosed, Start, WordsValue, clients_in, slots_items, word_count, words_in}
-use Rattle.std.specs.Prelude.{IfSome}
-use Rattle.cn_floor.specs.Carried.{words_before}
-use Rattle.cn_floor.specs.Ends.{IsClosedFloor, QuietValue}
-use Rattle.cn_floor.specs.Words.{IsDifference, NoneWent}
+use Rattle.cn_floor.proofs.Common.{◌≡◌, ℕ, List, arith, ap, sym, ◌∙◌, subst, IsClosed, Start, WordsValue, clients_in, slots_items, word_count, words_in, IfSome, words_before, IsClosedFloor, QuietValue, IsDifference, NoneWent}
 use Rattle.cn_floor.proofs.floor.closed_floor.ClosedFloor.quiet_in.Goals as goal
 
 pub copy_words-requires-clause-places : goal.copy_words-requires-clause-places

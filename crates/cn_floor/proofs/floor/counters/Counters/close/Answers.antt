@@ -1,6 +1,4 @@
-use Rattle.std.proofs.Common.{rules, subst}
-use Rattle.cn_floor.proofs.Common.{PostValue, Start, slots_items, words_in}
-use Rattle.cn_floor.specs.Closing.{IsEnding}
+use Rattle.cn_floor.proofs.Common.{rules, subst, PostValue, Start, slots_items, words_in, IsEnding}
 use Rattle.cn_floor.proofs.AtClose.Spread.{ending-spread, picked-all}
 use Rattle.cn_floor.proofs.floor.counters.Counters.close.Goals as goal
 

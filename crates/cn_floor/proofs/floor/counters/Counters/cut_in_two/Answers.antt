@@ -1,6 +1,4 @@
-use Rattle.std.proofs.Common.{◌≡◌, ◌+◌, ◌-◌, rules, sym, ap, subst, arith}
-use Rattle.cn_floor.proofs.Common.{FloorValue, HoldsAt, IsAccounted, Splits, Start, View, base, start_of}
-use Rattle.cn_floor.specs.Together.{Pair, both_of, cut_first, cut_second}
+use Rattle.cn_floor.proofs.Common.{◌≡◌, ◌+◌, ◌-◌, rules, sym, ap, subst, arith, FloorValue, HoldsAt, IsAccounted, Splits, Start, View, base, start_of, Pair, both_of, cut_first, cut_second}
 use Rattle.cn_floor.proofs.InStates.Placed.{first as lanes-place, splits-at, there}
 use Rattle.cn_floor.proofs.InStates.Sharing.{IsSum}
 use Rattle.cn_floor.proofs.InStates.Together.{accounted-answered, accounted-seen, cuts-in-two, sum-answered, sum-both}

@@ -1,6 +1,4 @@
-use Rattle.std.proofs.Common.{◌≡◌, ℕ, ◌^◌, ◌%◌, ◌+◌, ◌-◌, [], ◌<◌, length, refl, sym, ap, ◌∙◌, subst, arith}
-use Rattle.cn_floor.proofs.Common.{FloorValue, PostValue, Start, start_of}
-use Rattle.cn_floor.specs.Plays.{Coming, ComesIn}
+use Rattle.cn_floor.proofs.Common.{◌≡◌, ℕ, ◌^◌, ◌%◌, ◌+◌, ◌-◌, [], ◌<◌, length, refl, sym, ap, ◌∙◌, subst, arith, FloorValue, PostValue, Start, start_of, Coming, ComesIn}
 use Rattle.cn_floor.proofs.InStates.Placed.{at-word, there}
 use Rattle.cn_floor.proofs.InStates.Enters.{lets-in-by}
 use Rattle.cn_floor.proofs.InLane.Posts.{entered-wires, post-kept}

@@ -1,6 +1,4 @@
-use Rattle.std.proofs.Common.{◌≡◌, ◌^◌, ◌%◌, ◌+◌, [], ◌<◌, length, sym, ap, ◌∙◌, subst, arith}
-use Rattle.cn_floor.proofs.Common.{FloorValue, PostValue, Start, View, start_of}
-use Rattle.cn_floor.specs.EntersAll.{AllComeIn, EnteringAll}
+use Rattle.cn_floor.proofs.Common.{◌≡◌, ◌^◌, ◌%◌, ◌+◌, [], ◌<◌, length, sym, ap, ◌∙◌, subst, arith, FloorValue, PostValue, Start, View, start_of, AllComeIn, EnteringAll}
 use Rattle.cn_floor.proofs.InStates.EntersAll.{enter-all-by}
 use Rattle.cn_floor.proofs.InStates.Placed.{at-word, there}
 use Rattle.cn_floor.proofs.InLane.Posts.{kept-by-all, post-kept}

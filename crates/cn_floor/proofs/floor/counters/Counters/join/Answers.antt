@@ -1,5 +1,4 @@
-use Rattle.std.proofs.Common.{rules, arith}
-use Rattle.cn_floor.proofs.Common.{start_of}
+use Rattle.cn_floor.proofs.Common.{rules, arith, start_of}
 use Rattle.cn_floor.proofs.InStates.Placed.{first, joins-at, there}
 use Rattle.cn_floor.proofs.InStates.Sharing.{joins}
 use Rattle.cn_floor.proofs.floor.counters.Counters.join.Goals as goal

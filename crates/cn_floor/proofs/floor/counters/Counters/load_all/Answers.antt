@@ -1,5 +1,4 @@
-use Rattle.std.proofs.Common.{◌≡◌, ℕ, ◌+◌, ◌-◌, ◌<◌, refl, sym, ap, ◌∙◌, subst, arith}
-use Rattle.cn_floor.proofs.Common.{FloorValue, IsAnswer, IsStart, View}
+use Rattle.cn_floor.proofs.Common.{◌≡◌, ℕ, ◌+◌, ◌-◌, ◌<◌, refl, sym, ap, ◌∙◌, subst, arith, FloorValue, IsAnswer, IsStart, View}
 use Rattle.cn_floor.proofs.InStates.Loading.{Loaded, loaded-next, loaded-none}
 use Rattle.cn_floor.proofs.floor.counters.Counters.load_all.Goals as goal
 

@@ -1,4 +1,4 @@
-use Rattle.std.proofs.Common.{◌≡◌, []}
+use Rattle.cn_floor.proofs.Common.{◌≡◌, []}
 use Rattle.cn_floor.proofs.InStates.Loading.{Loaded}
 use Rattle.cn_floor.proofs.floor.counters.Counters.load_all.Given as goal
 

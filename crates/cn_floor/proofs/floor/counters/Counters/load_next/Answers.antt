@@ -1,6 +1,4 @@
-use Rattle.std.proofs.Common.{◌≡◌, [], ◌<◌, rules, sym, ap, ◌∙◌, subst, arith}
-use Rattle.cn_floor.proofs.Common.{FloorValue, Start, start_of}
-use Rattle.cn_floor.specs.Plays.{Loads}
+use Rattle.cn_floor.proofs.Common.{◌≡◌, [], ◌<◌, rules, sym, ap, ◌∙◌, subst, arith, FloorValue, Start, start_of, Loads}
 use Rattle.cn_floor.proofs.InStates.Loading.{loads-by}
 use Rattle.cn_floor.proofs.InStates.Placed.{at-word, there}
 use Rattle.cn_floor.proofs.floor.counters.Counters.load_next.Goals as goal

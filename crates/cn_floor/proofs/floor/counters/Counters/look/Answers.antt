@@ -1,6 +1,4 @@
-use Rattle.std.proofs.Common.{◌≡◌, ℕ, [], ◌*◌, rules, sym, refl, ap, ◌∙◌, arith}
-use Rattle.cn_floor.proofs.Common.{FloorValue, start_of}
-use Rattle.cn_floor.specs.Plays.{Looks}
+use Rattle.cn_floor.proofs.Common.{◌≡◌, ℕ, [], ◌*◌, rules, sym, refl, ap, ◌∙◌, arith, FloorValue, start_of, Looks}
 use Rattle.cn_floor.proofs.InStates.Placed.{at-word, there}
 use Rattle.cn_floor.proofs.InStates.Sharing.{looks}
 use Rattle.cn_floor.proofs.floor.counters.Counters.look.Goals as goal

@@ -1,7 +1,4 @@
-use Rattle.std.proofs.Common.{◌≡◌, ℕ, ◌+◌, ◌-◌, ◌++◌, [], length, rules, sym, ap, ◌∙◌, subst, arith}
-use Rattle.cn_floor.proofs.Common.{IsAnswer, Start, StoodInState, View, start_of}
-use Rattle.cn_floor.specs.Together.{Pair, both_of, cut_first, first_after}
-use Rattle.cn_floor.specs.Views.{after_entered, after_look}
+use Rattle.cn_floor.proofs.Common.{◌≡◌, ℕ, ◌+◌, ◌-◌, ◌++◌, [], length, rules, sym, ap, ◌∙◌, subst, arith, IsAnswer, Start, StoodInState, View, start_of, Pair, both_of, cut_first, first_after, after_entered, after_look}
 use Rattle.cn_floor.proofs.InStates.Placed.{first as lanes-place, joins-at, there}
 use Rattle.cn_floor.proofs.InStates.Together.{answers-both, names-distinct, takes-together}
 use Rattle.cn_floor.proofs.floor.counters.Counters.look_at_both.Goals as goal

@@ -1,8 +1,5 @@
-use Rattle.std.proofs.Common.{◌≡◌, ◌*◌, ℕ, List, [], length, sym, ap, ◌∙◌, subst}
-use Rattle.atomic_table.specs.Table.{opening}
+use Rattle.cn_floor.proofs.Common.{◌≡◌, ◌*◌, ℕ, List, [], length, sym, ap, ◌∙◌, subst, opening, HoldsAt, IsStart, Start, start_of, word_count, empty_view}
 use Rattle.cn_floor.specs.declared.view.Opening.{Opening}
-use Rattle.cn_floor.proofs.Common.{HoldsAt, IsStart, Start, start_of, word_count}
-use Rattle.cn_floor.specs.Views.{empty_view}
 use Rattle.cn_floor.proofs.InStates.Openings.{begins}
 use Rattle.cn_floor.proofs.floor.counters.Counters.new.Goals as goal
 

@@ -1,5 +1,4 @@
-use Rattle.std.proofs.Common.{ℕ, ◌≤◌, rules, sym, ap, ◌∙◌, arith}
-use Rattle.cn_floor.proofs.Common.{FloorValue, start_of}
+use Rattle.cn_floor.proofs.Common.{ℕ, ◌≤◌, rules, sym, ap, ◌∙◌, arith, FloorValue, start_of}
 use Rattle.cn_floor.proofs.InStates.Placed.{first, splits-at, there}
 use Rattle.cn_floor.proofs.InStates.Sharing.{splits}
 use Rattle.cn_floor.proofs.floor.counters.Counters.split.Goals as goal

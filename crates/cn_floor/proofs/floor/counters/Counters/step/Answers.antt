@@ -1,6 +1,4 @@
-use Rattle.std.proofs.Common.{◌≡◌, ℕ, ◌^◌, ◌%◌, ◌+◌, ◌*◌, [], length, sym, ap, ◌∙◌, subst, arith}
-use Rattle.cn_floor.proofs.Common.{FloorValue, PostValue, Stands, Start, end_of, end_word, start_of}
-use Rattle.cn_floor.specs.Plays.{GoesOn}
+use Rattle.cn_floor.proofs.Common.{◌≡◌, ℕ, ◌^◌, ◌%◌, ◌+◌, ◌*◌, [], length, sym, ap, ◌∙◌, subst, arith, FloorValue, PostValue, Stands, Start, end_of, end_word, start_of, GoesOn}
 use Rattle.cn_floor.proofs.InStates.Steps.{lets-on-by}
 use Rattle.cn_floor.proofs.InStates.Placed.{at-word, there}
 use Rattle.cn_floor.proofs.InStates.Raised.{end-there}

@@ -1,6 +1,4 @@
-use Rattle.std.proofs.Common.{◌≡◌, ◌^◌, ◌%◌, ◌+◌, [], ◌<◌, length, sym, ap, ◌∙◌, subst, arith}
-use Rattle.cn_floor.proofs.Common.{FloorValue, PostValue, Stands, Start, View, end_of, end_word, on, start_of}
-use Rattle.cn_floor.specs.Sweeps.{AllGoOn}
+use Rattle.cn_floor.proofs.Common.{◌≡◌, ◌^◌, ◌%◌, ◌+◌, [], ◌<◌, length, sym, ap, ◌∙◌, subst, arith, FloorValue, PostValue, Stands, Start, View, end_of, end_word, on, start_of, AllGoOn}
 use Rattle.cn_floor.proofs.InStates.Placed.{at-word, there}
 use Rattle.cn_floor.proofs.InStates.Raised.{end-there}
 use Rattle.cn_floor.proofs.InStates.Sweeps.{all_go-on}

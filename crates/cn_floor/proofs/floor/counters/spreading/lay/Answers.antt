@@ -1,5 +1,4 @@
-use Rattle.std.proofs.Common.{◌≡◌, ◌*◌, ◌+◌, suc, ℕ, List, ap, arith, get_or, length, set, sym, ◌∙◌}
-use Rattle.cn_floor.proofs.Common.{spread}
+use Rattle.cn_floor.proofs.Common.{◌≡◌, ◌*◌, ◌+◌, suc, ℕ, List, ap, arith, get_or, length, set, sym, ◌∙◌, spread}
 use Rattle.cn_floor.proofs.InStates.Laid.{laid, laid-all, laid-next, spread-zeros}
 use Rattle.cn_floor.proofs.InStates.Spreads.{set-spread}
 use Rattle.cn_floor.proofs.floor.counters.spreading.lay.Goals as goal

@@ -1,5 +1,4 @@
-use Rattle.std.proofs.Common.{◌≡◌}
-use Rattle.cn_floor.proofs.Common.{spread}
+use Rattle.cn_floor.proofs.Common.{◌≡◌, spread}
 use Rattle.cn_floor.proofs.InStates.Laid.{laid}
 use Rattle.cn_floor.proofs.floor.counters.spreading.lay.Given as goal
 

@@ -1,6 +1,5 @@
-use Rattle.std.proofs.Common.{◌≡◌, ◌*◌, ℕ, List, length, sym, ap, ◌∙◌}
+use Rattle.cn_floor.proofs.Common.{◌≡◌, ◌*◌, ℕ, List, length, sym, ap, ◌∙◌, spread}
 use Rattle.std.proofs.lemmas.Result.{IfOk-weaker}
-use Rattle.cn_floor.proofs.Common.{spread}
 use Rattle.cn_floor.proofs.InStates.Laid.{spread-one}
 use Rattle.cn_floor.proofs.InStates.Spreads.{length-spread}
 use Rattle.cn_floor.proofs.floor.counters.spreading.table_of.Goals as goal

@@ -1,6 +1,4 @@
-use Rattle.std.proofs.Common.{◌≡◌, ◌+◌, ◌-◌, arith, ap, ◌∙◌, take, drop}
-use Rattle.cn_floor.proofs.Common.{Network, Table}
-use Rattle.cn_floor.specs.Ends.{QuietValue}
+use Rattle.cn_floor.proofs.Common.{◌≡◌, ◌+◌, ◌-◌, arith, ap, ◌∙◌, take, drop, Network, Table, QuietValue}
 use Rattle.cn_floor.proofs.AtClose.Rises.{counts-part}
 use Rattle.cn_floor.proofs.floor.quiet.Quiet.counts.Goals as goal
 

@@ -1,7 +1,4 @@
-use Rattle.std.proofs.Common.{◌≡◌, ◌++◌, ℕ, List, ap, drop, length, sym, subst, take, arith}
-use Rattle.std.proofs.Math.Seq.{take-append_seam}
-use Rattle.cn_floor.specs.declared.view.Grant.{Grant}
-use Rattle.cn_floor.specs.Ends.{ListsHolders}
+use Rattle.cn_floor.proofs.Common.{◌≡◌, ◌++◌, ℕ, List, ap, drop, length, sym, subst, take, arith, take-append_seam, Grant, ListsHolders}
 use Rattle.cn_floor.proofs.floor.quiet.Quiet.holders.Goals as goal
 
 pub list_holders-requires : goal.list_holders-requires

@@ -1,6 +1,4 @@
-use Rattle.std.proofs.Common.{sym, ap, ◌∙◌, subst}
-use Rattle.cn_floor.proofs.Common.{IsClosed}
-use Rattle.cn_floor.specs.Carried.{client_count}
+use Rattle.cn_floor.proofs.Common.{sym, ap, ◌∙◌, subst, IsClosed, client_count}
 use Rattle.cn_floor.proofs.AtClose.Rises.{none-went}
 use Rattle.cn_floor.proofs.floor.words.Words.risen_to.Goals as goal
 

@@ -1,5 +1,4 @@
-use Rattle.std.proofs.Common.{subst}
-use Rattle.cn_floor.proofs.Common.{IsClosed}
+use Rattle.cn_floor.proofs.Common.{subst, IsClosed}
 use Rattle.cn_floor.proofs.AtClose.Ends.{closed-tight}
 use Rattle.cn_floor.proofs.floor.words.Words.words_laws.Goals as goal
 

@@ -1,16 +1,7 @@
 -- A box as its pointer may cross threads, as the box may.
 use mir.Raw.{raw}
-use base.Fraction.{full_share}
-use base.Shift.{Keyless}
-use denote.Exit.{Exit, unchanged, leaves, hidden, under}
-use denote.Memory.{lone}
-use denote.RattleType.{RattleType}
-use denote.RawPtr.{Ptr, block_ptr, null_ptr, lies_at}
-use denote.Param.Send.{IsSend, AllSend, Frees, Quiet, part_keyless, owning_send, struct_send, sendable}
-use denote.Struct.Struct.{exits_of}
-use denote.Struct.Owning.{shape, fields, to}
-use Rattle.std.specs.declared.alloc.Allocator.{Ghosts}
-use Rattle.cn_handles.specs.contracts.handles.box_pointer.BoxPointer.{the_row, the_type}
+use Rattle.cn_handles.proofs.Common.{full_share, Keyless, Exit, unchanged, hidden, under, lone, RattleType, Ptr, block_ptr, null_ptr, lies_at, IsSend, AllSend, Frees, Quiet, part_keyless, owning_send, struct_send, sendable, exits_of, shape, fields, to, Ghosts, the_row, the_type}
+use denote.Exit.{leaves}
 
 quiet : {D X : Type 0} (to : D → X) (e : Exit X) → Quiet e → Quiet (hidden (under to e))
 quiet to unchanged q = λ x w. tt

@@ -1,8 +1,5 @@
 -- What a `&` to it shows is nothing of the box, so it may be shared as it may be sent.
-use denote.RattleType.{RattleType}
-use denote.Param.Send.{IsSend, IsSync, Frees, part_keyless}
-use Rattle.std.specs.declared.alloc.Allocator.{Ghosts}
-use Rattle.cn_handles.specs.contracts.handles.box_pointer.BoxPointer.{the_row}
+use Rattle.cn_handles.proofs.Common.{RattleType, IsSend, IsSync, Frees, part_keyless, Ghosts, the_row}
 use Rattle.cn_handles.proofs.handles.box_pointer.BoxPointer.TheSendSync.Send.{send}
 
 pub sync : (T A : RattleType) (g : Ghosts A.Denot) → IsSend T → IsSend A → Frees g g.dealloc_token → IsSync (the_row T A g)

@@ -1,4 +1,4 @@
-use Rattle.std.proofs.Common.{◌+◌, ◌-◌, ℕ, List, ap, arith, length, slice_index}
+use Rattle.cn_handles.proofs.Common.{◌+◌, ◌-◌, ℕ, List, ap, arith, length, slice_index}
 use Rattle.std.proofs.lemmas.List.FromFn.{length-map-range_with_len}
 use Rattle.cn_tables.specs.Table.{Table}
 use Rattle.cn_handles.proofs.handles.floor_record.FloorRecord.of.Goals as goal

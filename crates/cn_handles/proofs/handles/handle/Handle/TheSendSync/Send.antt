@@ -1,20 +1,11 @@
 -- A handle may cross threads, as what it holds may.
-use Rattle.std.proofs.Common.{Option, None, Some}
+use Rattle.cn_handles.proofs.Common.{Option, None, Some, full_share, Keyless, Exit, unchanged, hidden, under, RattleType, lone, Ptr, block_ptr, null_ptr, lies_at, IsSend, AllSend, Quiet, part_keyless, owning_send, struct_send, sendable, exits_of, shape, fields, to, holds}
 use mir.Raw.{raw}
-use base.Fraction.{full_share}
-use base.Shift.{Keyless}
-use denote.Exit.{Exit, unchanged, leaves, hidden, under}
-use denote.RattleType.{RattleType}
-use denote.Memory.{lone}
-use denote.RawPtr.{Ptr, block_ptr, null_ptr, lies_at}
-use denote.Param.Send.{IsSend, AllSend, Quiet, part_keyless, owning_send, struct_send, sendable}
-use denote.Struct.Struct.{exits_of}
-use denote.Struct.Owning.{shape, fields, to}
+use denote.Exit.{leaves}
 use Rattle.std.specs.declared.alloc.Global.{Global}
 use Rattle.std.proofs.alloc.Global.TheSendSync as heap
 use Rattle.std.proofs.Crossing.{frees}
 use Rattle.cn_handles.specs.Holding as held
-use Rattle.cn_handles.specs.Holding.{holds}
 use Rattle.cn_handles.proofs.handles.floor_record.FloorRecord.TheSendSync as record_crosses
 use Rattle.cn_handles.proofs.handles.held.Held.TheSendSync as held_crosses
 use Rattle.cn_handles.proofs.handles.held_lane.HeldLane.TheSendSync as lane_crosses

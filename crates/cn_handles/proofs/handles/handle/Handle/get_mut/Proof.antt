@@ -1,44 +1,13 @@
 -- `get_mut` lends what is in the box, and the handle follows it. Assumes `Logic`.
-use Rattle.std.proofs.Common.{◌≡◌, ℕ, List, [], ◌∷◌, refl, sym, ap, lit<, Option, None, Some}
-use mir.Syntax.{Fn, named}
-use mir.Val.{Val, vptr, vnil, vcons}
-use seplogic.Ra.Ura.{Ura}
-use base.Fraction.{full_share}
-use base.Fml.{Fml, Lft, GName, Share, ftrue, fsep, flft, fres}
-use base.Logic.{SProp, ent, sep, emp}
+use Rattle.cn_handles.proofs.Common.{◌≡◌, ℕ, List, [], ◌∷◌, refl, sym, ap, lit<, Option, None, Some, Fn, named, Val, vptr, vnil, vcons, Ura, full_share, Fml, Lft, GName, Share, ftrue, fsep, flft, fres, SProp, ent, sep, emp, Fun, Env, Calls, Loops, Wp, WpFn, after_block, after_seq, at_return, tables, Logic, sem, ‵, ◌⊛◌, some, later, at_ret, any_q, ◌$◌, ◌∵◌, !, qed, done, by, move, keep, use1, split, join, fsplit, fsplit3, fjoin, fpack, use0, split3, feq_i, pick, await, rewrite, group, suffices, frame, agg, sub, whole, look_in, live, stop, fld, addr, load, lit, bin, of_opd, no_more, and_then, first, blocks, branches, exec, returns, enter, alloc_all, pass_all, free_all, look_at, get, through, sets, sets_last, is, env, no, layout, Good, RattleType, owns, mem, cell_at, part_at, part_of, lone, Ptr, block_ptr, null_ptr, ptr_val, tests_null, plain, mut_ref_to, nothing, opens, closes, Clauses, on_entry, says, Stays, stay_dropped, walk_of, ends_at, Goes-spent_ref, after, head, inside, Some-of, none_of, ghosts, proved, box_owns, holds}
 use mir.Raw.{raw as bare}
 use prog.Memory.{Memory}
 use prog.Routine.{Routine}
-use contract.Monad.{Fun}
-use prog.Wp.{Env, Calls, Loops, Wp, WpFn, after_block, after_seq, at_return}
-use contract.Running.{tables}
-use types.Logic.{Logic, sem}
-use types.Kit.{‵, ◌⊛◌, some, later, at_ret, any_q, ◌$◌, ◌∵◌, !, qed, done, by, move, keep, drop, use1, split, join, fsplit, fsplit3, fjoin, fpack, use0, split3, feq_i, pick, await, rewrite, group, suffices, frame}
-use types.Part.{agg, sub, whole, look_in}
-use types.Match.{live}
-use types.Run.{stop, fld, addr, load, lit, bin, of_opd, no_more, and_then, first, blocks, branches, exec, returns, enter}
-use types.ByLocal.{alloc_all, pass_all, free_all, look_at, get, through, sets, sets_last, is, env}
-use denote.Exit.{no}
-use denote.Param.{layout}
-use Rattle.std.proofs.cell.Inside.{Good}
-use denote.RattleType.{RattleType, owns}
-use denote.Memory.{mem, cell_at, part_at, part_of, lone}
-use denote.RawPtr.{Ptr, block_ptr, null_ptr, ptr_val, tests_null}
+use types.Kit.{drop}
 use denote.Ref.{MutBor, MutRef, mut_vals, mut_Tells}
-use denote.Signature.{plain, mut_ref_to}
-use denote.Steps.{nothing, opens, closes}
 use denote.Follow.{follows, follows_by, lends_Part}
-use denote.Triple.Clauses.{Clauses}
-use denote.Triple.Entry.{on_entry}
-use denote.Triple.Walked.{says, Stays, stay_dropped, walk_of, ends_at, Goes-spent_ref}
-use Rattle.std.proofs.alloc.Shapes.{after, head, inside}
-use Rattle.std.proofs.option.Made.{Some-of, none_of}
 use Rattle.std.specs.contracts.option.Option as Opt
-use Rattle.std.specs.contracts.impls.GlobalAllocator.TheImpl.{ghosts}
 use Rattle.cn_handles.specs.Lends.{with_held}
-use Rattle.std.proofs.raw_atomic.Walks.{proved}
-use Rattle.std.specs.Box.Ownership.{box_owns}
-use Rattle.cn_handles.specs.Holding.{holds}
 use Rattle.cn_handles.proofs.Values.{both, Z, R, H, handle-out, handle-in, either}
 use Rattle.cn_handles.specs.contracts.handles.handle.Handle.get_mut.{ended, clauses}
 use Rattle.cn_handles.specs.contracts.handles.handle.Handle.get_mut.Key.{name as #self}

@@ -1,31 +1,6 @@
 -- `into_pointer` tests the pointer, which is null where the handle has nothing.
-use Rattle.std.proofs.Common.{◌≡◌, List, [], ◌∷◌, ◌++◌, refl, sym, ap, ◌∙◌, subst, lit<, None, Some}
-use mir.Val.{Val, vptr, vnil, vcons}
-use base.Logic.{SProp, ent, emp, id⊢}
-use base.Fml.{ftrue}
-use prog.Wp.{WpFn}
-use contract.Monad.{fact, fact_i}
-use contract.Running.{tables}
-use types.Kit.{‵, raw, ◌⊛◌, at_ret, ◌$◌, ◌∵◌, !, qed, by, move, keep, use0, use1, split, suffices, fsplit, fjoin}
-use types.Part.{agg, sub, whole}
-use types.Match.{live}
-use types.Run.{stop, fld, lit, of_opd, bin, no_more, and_then, first, branches, exec, returns, enter}
-use types.ByLocal.{alloc_all, pass_all, free_all, look_at, get, get_in, sets, sets_last, env}
-use denote.RattleType.{RattleType, owns}
-use denote.Param.{layout}
-use denote.RawPtr.{Ptr, block_ptr, null_ptr, ptr_val, tests_null}
-use denote.Signature.{types_at, type_at, plain}
-use denote.Steps.{nothing}
-use denote.Triple.Entry.{alive}
-use denote.Triple.Walked.{Stays, stay_dropped, walk_of}
-use Rattle.std.proofs.alloc.Calls.{Goes-blank}
-use Rattle.std.proofs.alloc.Shapes.{after}
+use Rattle.cn_handles.proofs.Common.{◌≡◌, List, [], ◌∷◌, ◌++◌, refl, sym, ap, ◌∙◌, subst, lit<, None, Some, Val, vptr, vnil, vcons, SProp, ent, emp, id⊢, ftrue, WpFn, fact, fact_i, tables, ‵, raw, ◌⊛◌, at_ret, ◌$◌, ◌∵◌, !, qed, by, move, keep, use0, use1, split, suffices, fsplit, fjoin, agg, sub, whole, live, stop, fld, lit, of_opd, bin, no_more, and_then, first, branches, exec, returns, enter, alloc_all, pass_all, free_all, look_at, get, get_in, sets, sets_last, env, RattleType, owns, layout, Ptr, block_ptr, null_ptr, ptr_val, tests_null, types_at, type_at, plain, nothing, alive, Stays, stay_dropped, walk_of, Goes-blank, after, Good, Some-of, none_of, and_tt, ghosts, proved_at, leaves}
 use Rattle.std.proofs.alloc.Global.TheLaws as heap_laws
-use Rattle.std.proofs.cell.Inside.{Good}
-use Rattle.std.proofs.option.Made.{Some-of, none_of}
-use Rattle.std.proofs.ResultValues.{and_tt}
-use Rattle.std.specs.contracts.impls.GlobalAllocator.TheImpl.{ghosts}
-use Rattle.std.proofs.raw_atomic.Walks.{proved_at, leaves}
 use Rattle.cn_handles.proofs.Loosened.{BoxPointer, loose_good, loose_in}
 use Rattle.cn_handles.proofs.Values.{both, Z, R, H, handle-good, handle-out, either}
 use Rattle.cn_handles.specs.contracts.handles.handle.Handle.into_pointer.{ended, clauses}

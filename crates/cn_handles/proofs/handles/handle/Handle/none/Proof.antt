@@ -1,26 +1,6 @@
 -- `none` is a null pointer beside the allocator.
-use Rattle.std.proofs.Common.{◌≡◌, List, [], ◌∷◌, ◌++◌, refl, sym, subst, None}
-use mir.Val.{Val}
-use base.Logic.{SProp, ent, emp, id⊢}
-use base.Fml.{ftrue}
-use prog.Wp.{WpFn}
-use contract.Monad.{fact, fact_i}
-use contract.Running.{tables}
-use types.Kit.{‵, raw, ◌⊛◌, ◌$◌, ◌∵◌, !, qed, by, move, keep, use0, split, rewrite, suffices, fsplit, fjoin, feq_i}
-use types.Part.{agg}
-use types.Run.{lit, no_more, and_then, returns, enter}
-use types.ByLocal.{alloc_all, pass_all, free_all, look_at, get, sets}
-use denote.Exit.{yes}
-use denote.RattleType.{owns}
-use denote.Param.{layout}
-use denote.RawPtr.{Ptr, null_ptr, ptr_val}
-use denote.Signature.{types_at, plain}
-use denote.Steps.{nothing}
-use denote.Triple.Entry.{alive}
-use denote.Triple.Walked.{Stays, stay_dropped, walk_of, Goes-dropped}
-use Rattle.std.proofs.cell.Inside.{one}
+use Rattle.cn_handles.proofs.Common.{◌≡◌, List, [], ◌∷◌, ◌++◌, refl, sym, subst, None, Val, SProp, ent, emp, id⊢, ftrue, WpFn, fact, fact_i, tables, ‵, raw, ◌⊛◌, ◌$◌, ◌∵◌, !, qed, by, move, keep, use0, split, rewrite, suffices, fsplit, fjoin, feq_i, agg, lit, no_more, and_then, returns, enter, alloc_all, pass_all, free_all, look_at, get, sets, yes, owns, layout, Ptr, null_ptr, ptr_val, types_at, plain, nothing, alive, Stays, stay_dropped, walk_of, Goes-dropped, one, proved_at, leaves}
 use Rattle.std.proofs.alloc.Global.TheLaws as heap_laws
-use Rattle.std.proofs.raw_atomic.Walks.{proved_at, leaves}
 use Rattle.cn_handles.proofs.Values.{both, Z, handle-good, handle-in}
 use Rattle.cn_handles.specs.contracts.handles.handle.Handle.none.{ended, clauses}
 use Rattle.cn_handles.specs.contracts.handles.handle.Handle.none.Key.{name as #self}

@@ -1,4 +1,4 @@
-use Rattle.std.proofs.Common.{inr, refl}
+use Rattle.cn_handles.proofs.Common.{inr, refl}
 use Rattle.cn_handles.proofs.handles.held.Held.with_lane.Goals as goal
 
 pub returns-in-Lane : goal.returns-in-Lane

@@ -1,4 +1,4 @@
-use Rattle.std.proofs.Common.{◌≡◌, ◌+◌, ◌∙◌, Some, suc, refl, arith}
+use Rattle.cn_handles.proofs.Common.{◌≡◌, ◌+◌, ◌∙◌, Some, suc, refl, arith}
 use Rattle.cn_handles.proofs.handles.held_lane.HeldLane.join_all.Goals as goal
 
 pub loop-joined-preserved : goal.loop-joined-preserved

@@ -1,5 +1,4 @@
-use Rattle.std.specs.Prelude.{◌≡◌, ℕ, Some}
-use Rattle.cn_handles.specs.Looking.{IsWithin}
+use Rattle.cn_handles.proofs.Common.{◌≡◌, ℕ, Some, IsWithin}
 use Rattle.cn_handles.specs.Returns.{JoinsTimes}
 use Rattle.cn_handles.proofs.handles.held_lane.HeldLane.join_all.Given as goal
 

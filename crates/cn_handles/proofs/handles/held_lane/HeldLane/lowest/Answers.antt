@@ -1,7 +1,4 @@
-use Rattle.std.proofs.Common.{◌≡◌, refl, subst}
-use Rattle.cn_yard.specs.Lists.{tokens_in}
-use Rattle.cn_floor.specs.Lane.{LaneValue}
-use Rattle.cn_floor.proofs.CallerLemmas.{nobody-there}
+use Rattle.cn_handles.proofs.Common.{◌≡◌, refl, subst, tokens_in, LaneValue, nobody-there}
 use Rattle.cn_handles.proofs.handles.held_lane.HeldLane.lowest.Goals as goal
 
 pub returns-in-None-clause-refused : goal.returns-in-None-clause-refused

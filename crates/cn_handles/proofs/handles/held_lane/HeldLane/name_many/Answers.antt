@@ -1,7 +1,4 @@
-use Rattle.std.proofs.Common.{rules, ◌≡◌, ◌≤◌, List, arith, ap, ◌∙◌, length, subst}
-use Rattle.cn_floor.specs.Lane.{LaneValue, with_rooms}
-use Rattle.cn_handles.specs.Many.{AreAllNamed}
-use Rattle.cn_handles.specs.declared.handles.client.Client.{Client}
+use Rattle.cn_handles.proofs.Common.{rules, ◌≡◌, ◌≤◌, List, arith, ap, ◌∙◌, length, subst, LaneValue, with_rooms, AreAllNamed, Client}
 use Rattle.cn_handles.proofs.Listed.{with-more-room}
 use Rattle.cn_handles.proofs.handles.held_lane.HeldLane.name_many.Goals as goal
 use Rattle.cn_handles.proofs.handles.held_lane.HeldLane.name_many.Goals.{else-grant_room-count-via-then-grant_room-count+else-is_err, else-grant_room-count-via-else-grant_room-count}

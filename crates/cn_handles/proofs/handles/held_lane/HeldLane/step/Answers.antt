@@ -1,8 +1,5 @@
-use Rattle.std.proofs.Common.{rules, ◌≡◌, ℕ, ◌<◌, ◌∙◌, length, sym, subst}
-use Rattle.cn_yard.specs.Lists.{IsThere, Lists, on}
+use Rattle.cn_handles.proofs.Common.{rules, ◌≡◌, ℕ, ◌<◌, ◌∙◌, length, sym, subst, IsThere, Lists, on, LaneValue, StepsOn, first-stands, some-inside}
 use Rattle.cn_yard.proofs.CallerLemmas.{IsFirst, first-is, first-there, there-alike}
-use Rattle.cn_floor.specs.Lane.{LaneValue, StepsOn}
-use Rattle.cn_floor.proofs.CallerLemmas.{first-stands, some-inside}
 use Rattle.cn_handles.specs.Moves.{IsStepped, moved_of}
 use Rattle.cn_handles.proofs.handles.held_lane.HeldLane.step.Goals as goal
 

@@ -1,4 +1,4 @@
-use Rattle.std.specs.Prelude.{◌≡◌}
+use Rattle.cn_handles.proofs.Common.{◌≡◌}
 use Rattle.cn_handles.proofs.handles.held_lane.HeldLane.take_back.Given as goal
 
 -- so many lanes with nothing were let go

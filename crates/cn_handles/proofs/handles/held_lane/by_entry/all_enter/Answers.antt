@@ -1,7 +1,4 @@
-use Rattle.std.proofs.Common.{inl, inr, ℕ, List, ap, arith, get_or}
-use Rattle.std.proofs.lemmas.Bool.{cases_eq}
-use Rattle.std.proofs.lemmas.List.{get_or_default}
-use Rattle.cn_handles.specs.declared.handles.client.Client.{Client}
+use Rattle.cn_handles.proofs.Common.{inl, inr, ℕ, List, ap, arith, get_or, cases_eq, get_or_default, Client}
 use Rattle.cn_handles.proofs.handles.held_lane.by_entry.all_enter.Goals as goal
 
 abbrev nobody : Client

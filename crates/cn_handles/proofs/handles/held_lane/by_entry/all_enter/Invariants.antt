@@ -1,5 +1,4 @@
-use Rattle.std.proofs.Common.{ℕ, ◌<◌, get_or}
-use Rattle.cn_handles.specs.declared.handles.client.Client.{Client}
+use Rattle.cn_handles.proofs.Common.{ℕ, ◌<◌, get_or, Client}
 use Rattle.cn_handles.proofs.handles.held_lane.by_entry.all_enter.Given as goal
 
 -- the clients so far come by one of the entries

@@ -1,6 +1,4 @@
-use Rattle.std.proofs.Common.{◌≡◌, ℕ, ◌-◌, ◌<◌, ◌≤◌, get_or, length, map, take}
-use Rattle.cn_handles.specs.Many.{first_entry}
-use Rattle.cn_handles.specs.declared.handles.client.Client.{Client}
+use Rattle.cn_handles.proofs.Common.{◌≡◌, ℕ, ◌-◌, ◌<◌, ◌≤◌, get_or, length, map, take, first_entry, Client}
 use Rattle.cn_handles.proofs.handles.held_lane.by_entry.copy_run.Given as goal
 
 abbrev pub invariant-loop-count : goal.invariant-loop-count

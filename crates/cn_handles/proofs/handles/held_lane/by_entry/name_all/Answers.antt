@@ -1,12 +1,5 @@
-use Rattle.std.proofs.Common.{rules, ◌≡◌, ℕ, ◌+◌, ◌-◌, ◌<◌, ◌≤◌, [], ◌∷◌, ◌++◌, List, arith, drop, length, map, refl, take, sym, ap, ◌∙◌, subst}
-use Rattle.std.proofs.Math.ListN.{drop_of_length-le}
-use Rattle.std.proofs.lemmas.List.{drop-drop, length-drop, length-map, take_all}
+use Rattle.cn_handles.proofs.Common.{rules, ◌≡◌, ℕ, ◌+◌, ◌-◌, ◌<◌, ◌≤◌, [], ◌∷◌, ◌++◌, List, arith, drop, length, map, refl, take, sym, ap, ◌∙◌, subst, drop_of_length-le, drop-drop, length-drop, length-map, take_all, FloorValue, LaneValue, StoodInState, WalksAll, AreNamedAtOnce, AreNamedByRuns, IsLongestRun, by_entry, client_from, first_entry, Client}
 use Rattle.cn_ledger.specs.declared.client.Client as ledger
-use Rattle.cn_floor.specs.Lane.{FloorValue, LaneValue}
-use Rattle.cn_floor.specs.Steps.{StoodInState}
-use Rattle.cn_walk.specs.Walks.{WalksAll}
-use Rattle.cn_handles.specs.Many.{AreNamedAtOnce, AreNamedByRuns, IsLongestRun, by_entry, client_from, first_entry}
-use Rattle.cn_handles.specs.declared.handles.client.Client.{Client}
 use Rattle.cn_handles.proofs.Listed.{by-run, map-part, more, take_both}
 use Rattle.cn_handles.proofs.handles.held_lane.by_entry.name_all.Goals as goal
 

@@ -1,8 +1,4 @@
-use Rattle.std.proofs.Common.{◌≡◌, ℕ, ◌-◌, ◌<◌, ◌≤◌, List, drop, length, map, take}
-use Rattle.cn_floor.specs.Lane.{LaneValue}
-use Rattle.cn_floor.specs.Steps.{StoodInState}
-use Rattle.cn_walk.specs.Walks.{WalksAll}
-use Rattle.cn_handles.specs.Many.{AreNamedByRuns, client_from}
+use Rattle.cn_handles.proofs.Common.{◌≡◌, ℕ, ◌-◌, ◌<◌, ◌≤◌, List, drop, length, map, take, LaneValue, StoodInState, WalksAll, AreNamedByRuns, client_from}
 use Rattle.cn_handles.proofs.handles.held_lane.by_entry.name_all.Given as goal
 
 -- the clients so far are named, and by runs: a lane that names the others by runs has named all by runs

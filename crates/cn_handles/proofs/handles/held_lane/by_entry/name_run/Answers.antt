@@ -1,6 +1,4 @@
-use Rattle.std.proofs.Common.{ℕ, List, [], ◌∷◌, arith, refl, slice_index, subst, sym}
-use Rattle.cn_floor.specs.declared.view.Grant.{Grant}
-use Rattle.cn_lists.specs.Listed.{AreNamesBy}
+use Rattle.cn_handles.proofs.Common.{ℕ, List, [], ◌∷◌, arith, refl, slice_index, subst, sym, Grant, AreNamesBy}
 use Rattle.cn_handles.proofs.InOrder.{one-named}
 use Rattle.cn_handles.proofs.Listed.{together}
 use Rattle.cn_handles.proofs.handles.held_lane.by_entry.name_run.Goals as goal

@@ -1,16 +1,6 @@
-use Rattle.std.proofs.Common.{rules, ◌≡◌, ℕ, ◌+◌, ◌-◌, ◌<◌, ◌≤◌, [], ◌∷◌, ◌++◌, List, arith, refl, sym, ap, ◌∙◌, subst}
-use Rattle.std.proofs.Common.{append_assoc, drop, length, map, take}
-use Rattle.std.proofs.Math.ListN.{drop_of_length-le}
-use Rattle.std.proofs.lemmas.List.{drop-drop, length-map, map-append, take_all}
+use Rattle.cn_handles.proofs.Common.{rules, ◌≡◌, ℕ, ◌+◌, ◌-◌, ◌<◌, ◌≤◌, [], ◌∷◌, ◌++◌, List, arith, refl, sym, ap, ◌∙◌, subst, append_assoc, drop, length, map, take, drop_of_length-le, drop-drop, length-map, map-append, take_all, Grant, FloorValue, LaneValue, StoodInState, WalksAll, AreNamesBy, AreNamedAtOnce, AreNamedByRuns, all_by, by_entry, Client}
 use Rattle.std.proofs.lemmas.Slice.{take-put_mid}
 use Rattle.cn_ledger.specs.declared.client.Client as ledger
-use Rattle.cn_floor.specs.declared.view.Grant.{Grant}
-use Rattle.cn_floor.specs.Lane.{FloorValue, LaneValue}
-use Rattle.cn_floor.specs.Steps.{StoodInState}
-use Rattle.cn_walk.specs.Walks.{WalksAll}
-use Rattle.cn_lists.specs.Listed.{AreNamesBy}
-use Rattle.cn_handles.specs.Many.{AreNamedAtOnce, AreNamedByRuns, all_by, by_entry}
-use Rattle.cn_handles.specs.declared.handles.client.Client.{Client}
 use Rattle.cn_handles.proofs.InOrder.{as-many-names, both-named, from-all, longest, run-ids, run-length}
 use Rattle.cn_handles.proofs.Listed.{more, take_both}
 use Rattle.cn_handles.proofs.handles.held_lane.in_order.name_list.Goals as goal

@@ -1,9 +1,4 @@
-use Rattle.std.proofs.Common.{ℕ, ◌-◌, ◌<◌, ◌≤◌, List, drop, length, take}
-use Rattle.cn_floor.specs.Lane.{LaneValue}
-use Rattle.cn_floor.specs.Steps.{StoodInState}
-use Rattle.cn_walk.specs.Walks.{WalksAll}
-use Rattle.cn_lists.specs.Listed.{HaveNames}
-use Rattle.cn_handles.specs.Many.{AreNamedByRuns, all_by, by_entry}
+use Rattle.cn_handles.proofs.Common.{ℕ, ◌-◌, ◌<◌, ◌≤◌, List, drop, length, take, LaneValue, StoodInState, WalksAll, HaveNames, AreNamedByRuns, all_by, by_entry}
 use Rattle.cn_handles.proofs.handles.held_lane.in_order.name_list.Given as goal
 
 -- the clients so far are named, by runs, and their names are written

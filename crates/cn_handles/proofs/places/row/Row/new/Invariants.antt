@@ -1,5 +1,4 @@
-use Rattle.std.specs.Prelude.{◌≡◌, length}
-use Rattle.cn_handles.specs.Placing.{AreTagsOf}
+use Rattle.cn_handles.proofs.Common.{◌≡◌, length, AreTagsOf}
 use Rattle.cn_handles.proofs.places.row.Row.new.Given as goal
 
 -- the places so far are for lanes of the floor

@@ -1,4 +1,4 @@
-use Rattle.std.specs.Prelude.{◌≡◌, ◌+◌}
+use Rattle.cn_handles.proofs.Common.{◌≡◌, ◌+◌}
 use Rattle.cn_handles.proofs.places.row.Row.uncounted.Given as goal
 
 -- none was counted in the groups so far

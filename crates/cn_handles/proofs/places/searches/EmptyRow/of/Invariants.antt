@@ -1,4 +1,4 @@
-use Rattle.std.specs.Prelude.{◌≡◌, ◌+◌}
+use Rattle.cn_handles.proofs.Common.{◌≡◌, ◌+◌}
 use Rattle.cn_handles.proofs.places.searches.EmptyRow.of.Given as goal
 
 -- none was counted in the rows so far

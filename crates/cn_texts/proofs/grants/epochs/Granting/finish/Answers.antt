@@ -1,5 +1,4 @@
-use Rattle.cn_texts.proofs.Common.{◌+◌, ◌++◌, arith, inl, inr}
-use Rattle.std.proofs.lemmas.Result.{err_from_is_err_and}
+use Rattle.cn_texts.proofs.Common.{◌+◌, ◌++◌, arith, inl, inr, err_from_is_err_and}
 use Rattle.cn_texts.proofs.GrantLemmas.CheckedGrants.{no_gap, seen-end, seen-latest}
 use Rattle.cn_texts.proofs.grants.epochs.Granting.finish.Goals as goal
 

@@ -1,7 +1,6 @@
-use Rattle.cn_texts.proofs.Common.{refl, arith}
+use Rattle.cn_texts.proofs.Common.{refl, arith, ◌∙◌}
 use Rattle.cn_texts.proofs.GrantLemmas.Repeats.{no-occurrences}
 use Rattle.cn_texts.proofs.grants.epochs.Granting.new.Goals as goal
-use Rattle.std.proofs.Common.{◌∙◌}
 
 pub returns-clause-checked : goal.returns-clause-checked
 returns-clause-checked c = record {

@@ -1,9 +1,4 @@
-use Rattle.cn_texts.proofs.Common.{◌∙◌, ◌≡◌, ℕ, List, None, Some, ap, arith, length, map}
-use Rattle.std.proofs.lemmas.List.{with_items_is}
-use Rattle.std.proofs.lemmas.List.Sorted.{length_permutation}
-use Rattle.cn_texts.specs.Grants.Occurrences.{has_number, numbers_of}
-use Rattle.cn_texts.specs.declared.grants.occurrences.Occurrence.{Occurrence}
-use Rattle.cn_texts.specs.declared.grants.record.Granted.{Granted}
+use Rattle.cn_texts.proofs.Common.{◌∙◌, ◌≡◌, ℕ, List, None, Some, ap, arith, length, map, with_items_is, length_permutation, has_number, numbers_of, Occurrence, Granted}
 use Rattle.cn_texts.proofs.GrantLemmas.CheckedGrants.{all-fresh, client-twice, name-twice, named}
 use Rattle.cn_texts.proofs.GrantLemmas.Repeats.{numbers-occurrences, same-numbers}
 use Rattle.cn_texts.proofs.grants.epochs.Granting.settle.Goals as goal

@@ -1,5 +1,4 @@
-use Rattle.cn_texts.proofs.Common.{◌<◌, ◌++◌, append-nil, arith, inr, subst, sym}
-use Rattle.cn_texts.specs.Grants.Checked.{AreSeen}
+use Rattle.cn_texts.proofs.Common.{◌<◌, ◌++◌, append-nil, arith, inr, subst, sym, AreSeen}
 use Rattle.cn_texts.proofs.GrantLemmas.CheckedGrants.{seen-latest, turned}
 use Rattle.cn_texts.proofs.grants.epochs.Granting.turn_to.Goals as goal
 

@@ -1,7 +1,4 @@
-use Rattle.cn_texts.proofs.Common.{[], ap, sym, ◌∙◌, refl}
-use Rattle.csv.specs.Records.{fields_of}
-use Rattle.cn_texts.specs.Reading.Batch.{IsOfReading, cause_of_heading, header_cause, record_cause}
-use Rattle.cn_texts.specs.declared.reading.batch_fault.BatchCause.TheVariants.{Header}
+use Rattle.cn_texts.proofs.Common.{[], ap, sym, ◌∙◌, refl, fields_of, IsOfReading, cause_of_heading, header_cause, record_cause, Header}
 use Rattle.cn_texts.proofs.ReadingLemmas.FirstFaults.{no_header, nothing}
 use Rattle.cn_texts.proofs.reading.batch.arrivals.read_header.Goals as goal
 

@@ -1,5 +1,4 @@
-use Rattle.cn_texts.proofs.Common.{◌≡◌, ◌+◌, ◌≤◌, ◌∙◌, false, ap, arith, length, subst, sym, take, Pending}
-use Rattle.std.specs.Io.KnownBytes.{Appends}
+use Rattle.cn_texts.proofs.Common.{◌≡◌, ◌+◌, ◌≤◌, ◌∙◌, false, ap, arith, length, subst, sym, take, Pending, Appends}
 use Rattle.cn_texts.proofs.WritingLemmas.Putting.{written-all, written-some}
 use Rattle.cn_texts.proofs.writing.pieces.Pieces.write_held.Goals as goal
 

@@ -1,7 +1,4 @@
-use Rattle.cn_texts.proofs.Common.{refl, inl}
-use Rattle.std.proofs.lemmas.Result.{err_from_is_err_and}
-use Rattle.csv.specs.Records.{fields_of}
-use Rattle.cn_texts.specs.Reading.Batch.{batch_cause_of_fault}
+use Rattle.cn_texts.proofs.Common.{refl, inl, err_from_is_err_and, fields_of, batch_cause_of_fault}
 use Rattle.cn_texts.proofs.ReadingLemmas.Told.{told-other}
 use Rattle.cn_texts.proofs.reading.batch.arrivals.ArrivalReader.next_arrival.Goals as goal
 

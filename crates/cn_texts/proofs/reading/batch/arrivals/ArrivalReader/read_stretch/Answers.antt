@@ -1,9 +1,5 @@
-use Rattle.cn_texts.proofs.Common.{◌≡◌, ◌∷◌, ◌++◌, [], append-nil, append_assoc, arith, false, inr, length-append, refl, rules, true, Err, Ok}
-use Rattle.std.specs.Result.{is_ok}
-use Rattle.std.proofs.lemmas.Result.{err_from_is_err_and}
-use Rattle.cn_texts.specs.declared.reading.batch_fault.BatchCause.TheVariants.{Memory}
+use Rattle.cn_texts.proofs.Common.{◌≡◌, ◌∷◌, ◌++◌, [], append-nil, append_assoc, arith, false, inr, length-append, refl, rules, true, Err, Ok, is_ok, err_from_is_err_and, Memory, batch_cause_of_fault}
 use Rattle.cn_texts.proofs.ReadingLemmas.Ahead.{same-header, stretch-read}
-use Rattle.cn_texts.specs.Reading.Batch.{batch_cause_of_fault}
 use Rattle.cn_texts.proofs.ReadingLemmas.Stretches.{spelled-more}
 use Rattle.cn_texts.proofs.ReadingLemmas.Told.{told-other}
 use Rattle.cn_texts.proofs.reading.batch.arrivals.ArrivalReader.read_stretch.Goals as goal

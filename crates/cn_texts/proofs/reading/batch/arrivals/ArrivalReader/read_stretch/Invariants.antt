@@ -1,5 +1,4 @@
-use Rattle.cn_texts.proofs.Common.{◌≡◌, ◌++◌, ℕ, List, length, HasRead, IsPlain, Record}
-use Rattle.cn_texts.specs.Reading.Stretch.{AreSpelled, HasSameHeader}
+use Rattle.cn_texts.proofs.Common.{◌≡◌, ◌++◌, ℕ, List, length, HasRead, IsPlain, Record, AreSpelled, HasSameHeader}
 use Rattle.cn_texts.proofs.reading.batch.arrivals.ArrivalReader.read_stretch.Given as goal
 
 abbrev pub invariant-loop-taken : goal.invariant-loop-taken

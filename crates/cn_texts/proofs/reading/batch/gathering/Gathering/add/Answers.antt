@@ -1,5 +1,4 @@
-use Rattle.cn_texts.proofs.Common.{◌≡◌, ◌∙◌, true, sym, inl, inr, arith, rules}
-use Rattle.std.specs.Result.{is_ok}
+use Rattle.cn_texts.proofs.Common.{◌≡◌, ◌∙◌, true, sym, inl, inr, arith, rules, is_ok}
 use Rattle.cn_texts.proofs.ReadingLemmas.GatheredEpochs.{backwards, out_of_range, reported-of, taken_of}
 use Rattle.cn_texts.proofs.ReadingLemmas.ServableEpochs.{added-keeps}
 use Rattle.cn_texts.proofs.ReadingLemmas.Results.{if_err-map, on_ok, on_ok-map}

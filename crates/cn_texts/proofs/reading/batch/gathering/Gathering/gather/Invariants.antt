@@ -1,8 +1,4 @@
-use Rattle.cn_texts.proofs.Common.{◌≡◌, ◌+◌, List, Record}
-use Rattle.cn_texts.specs.Reading.Gathered.{IsGathered, StaysServable}
-use Rattle.cn_texts.specs.Reading.Stretch.{AreSpelled, AreTaken}
-use Rattle.cn_texts.specs.declared.reading.batch.arrival.Arrival.{Arrival}
-use Rattle.cn_texts.specs.declared.reading.batch.arrival.Heading.{Heading}
+use Rattle.cn_texts.proofs.Common.{◌≡◌, ◌+◌, List, Record, IsGathered, StaysServable, AreSpelled, AreTaken, Arrival, Heading}
 use Rattle.cn_texts.proofs.ReadingLemmas.Stretches.{GatheredTo}
 use Rattle.cn_texts.proofs.reading.batch.gathering.Gathering.gather.Given as goal
 
