@@ -1,7 +1,6 @@
 mod Common
 pub mod Flow
 pub mod Conserve
-pub mod Few
 pub mod PlanFlow
 pub mod Tables
 pub mod Arrivals

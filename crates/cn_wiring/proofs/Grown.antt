@@ -1,6 +1,6 @@
 -- What a balancer over loose wires does to a plan.
-use Rattle.cn_wiring.proofs.Common.{◌≡◌, ℕ, ◌+◌, ◌<◌, ◌≤◌, ◌⊎◌, inl, inr, false, List, [], ◌∷◌, ◌++◌, length, get_or, refl, ◌∙◌, arith, eqb, Some, None, length-append, sum_by, add-zero, cases_eq, eq-eqb, ne_eqb, nat_tests, sum_by-cons, half, when, times, Plan, ends_at, passages, IsFlow, loose, AllLoose, IsPath, HasLevel, Each, Builds, next_wire, IsOrderly, MOST_BALANCERS, total-where-none, total-where-push}
-use Rattle.cn_wiring.proofs.Marks.{AllLooseIn, below_from-end, below_from-loose, get-or-push-none, length-mark, loose_in, loose_in-mark, loose_in-push, mark, mark-at, mark-other, total-mark}
+use Rattle.cn_wiring.proofs.Common.{◌≡◌, ℕ, ◌+◌, ◌<◌, ◌≤◌, ◌⊎◌, inl, inr, false, List, [], ◌∷◌, ◌++◌, length, get_or, refl, ◌∙◌, arith, eqb, Some, None, length-append, sum_by, add-zero, cases_eq, eq-eqb, ne_eqb, nat_tests, sum_by-cons, half, when, times, Plan, ends_at, passages, IsFlow, loose, AllLoose, IsPath, HasLevel, Each, Builds, next_wire, IsOrderly, MOST_BALANCERS, total-where-none, total-where-push, set, length-set, zero-add}
+use Rattle.cn_wiring.proofs.Marks.{AllLooseIn, below_from-end, below_from-loose, get-or-push-none, length-mark, loose_in, loose_in-mark, loose_in-push, mark, mark-at, mark-other, total-mark, head-loose, tail-loose}
 
 -- the plan with one more balancer, at which ws end
 abbrev pub grown : Plan → List ℕ → Plan
@@ -170,3 +170,44 @@ flow-shrunk d ws o h f g first second b k =
       | inl same ↦ rw (same, total-newest d ws f o h, add-zero) (first, second)
       | inr other ↦ let l : b < d.balancers = omega arith in rw (total-older d ws b f h l) (g b l)
     ]
+
+-- A balancer over two loose wires, and one over a loose wire: the flows of the plan.
+
+pub two-stand : (d : Plan) (u v : ℕ) → AllLoose d (u ∷ v ∷ []) → (u < length d.ends) × (v < length d.ends)
+unfolding AllLooseIn times
+two-stand d u v h =
+    let first = head-loose d.ends u (v ∷ []) h in
+    let second = head-loose (set d.ends u (Some 0)) v [] (tail-loose d.ends u 0 (v ∷ []) h) in (
+      below_from-loose d.ends u first,
+      let k = below_from-loose (set d.ends u (Some 0)) v second in
+          omega (arith, length-set d.ends u (Some 0)),
+    )
+
+pub halves-joined : (d : Plan) (u v : ℕ) → IsOrderly d → AllLoose d (u ∷ v ∷ []) → (f : ℕ → ℕ) → IsFlow (grown d (u ∷ v ∷ [])) f
+    → (f (next_wire d) ≡ half (f u + f v) 0) × (f (next_wire d + 1) ≡ half (f u + f v) 1)
+halves-joined d u v o h f g =
+    let e : sum_by f (u ∷ v ∷ []) ≡ f u + f v = rw zero-add in
+    rw e at (halves-grown d (u ∷ v ∷ []) o h f g)
+
+pub flow-unjoined : (d : Plan) (u v : ℕ) → IsOrderly d → AllLoose d (u ∷ v ∷ []) → (f : ℕ → ℕ) → IsFlow d f
+    → f (next_wire d) ≡ half (f u + f v) 0 → f (next_wire d + 1) ≡ half (f u + f v) 1 → IsFlow (grown d (u ∷ v ∷ [])) f
+flow-unjoined d u v o h f g =
+    let e : sum_by f (u ∷ v ∷ []) ≡ f u + f v = rw zero-add in
+    rw e at (flow-shrunk d (u ∷ v ∷ []) o h f g)
+
+-- only one wire
+pub one-stands : (d : Plan) (u : ℕ) → AllLoose d (u ∷ []) → u < length d.ends
+unfolding AllLooseIn
+one-stands d u h = below_from-loose d.ends u (head-loose d.ends u [] h)
+
+pub halves-forked : (d : Plan) (u : ℕ) → IsOrderly d → AllLoose d (u ∷ []) → (f : ℕ → ℕ) → IsFlow (grown d (u ∷ [])) f
+    → (f (next_wire d) ≡ half (f u) 0) × (f (next_wire d + 1) ≡ half (f u) 1)
+halves-forked d u o h f g =
+    let e : sum_by f (u ∷ []) ≡ f u = rw zero-add in
+    rw e at (halves-grown d (u ∷ []) o h f g)
+
+pub flow-unforked : (d : Plan) (u : ℕ) → IsOrderly d → AllLoose d (u ∷ []) → (f : ℕ → ℕ) → IsFlow d f
+    → f (next_wire d) ≡ half (f u) 0 → f (next_wire d + 1) ≡ half (f u) 1 → IsFlow (grown d (u ∷ [])) f
+flow-unforked d u o h f g =
+    let e : sum_by f (u ∷ []) ≡ f u = rw zero-add in
+    rw e at (flow-shrunk d (u ∷ []) o h f g)

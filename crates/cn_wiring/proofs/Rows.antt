@@ -1,7 +1,27 @@
 -- Rows of wires of a level.
-use Rattle.cn_wiring.proofs.Common.{ℕ, ◌≤◌, List, length, map, ◌∙◌, arith, Result, Ok, Err, range_with_len, length-map, length-range_with_len, pow_pos, IsRow, MOST_ENDS, MOST_LEVEL, IsWidthOf}
+use Rattle.cn_wiring.proofs.Common.{◌≡◌, ℕ, suc, ◌*◌, ◌^◌, ◌<◌, ◌≤◌, arith, lit≤, pow_below, MOST_ENDS, MOST_LEVEL, IsWidth, List, length, map, ◌∙◌, Result, Ok, Err, range_with_len, length-map, length-range_with_len, pow_pos, IsRow, IsWidthOf}
+use Rattle.std.proofs.Math.Nat.{pow-succ'}
+use Rattle.std.proofs.Math.Pow.{pow_mono}
 use Rattle.std.specs.Result.{IfOk}
-use Rattle.cn_wiring.proofs.WidthLemmas.{width-few}
+
+-- Levels and widths.
+
+-- the level of a number that is a power of two, by the greatest power of two that is not above it
+pub level-is-log : (n log level : ℕ) → 2 ^ log ≤ n → n < 2 * 2 ^ log → n ≡ 2 ^ level → level ≡ log
+level-is-log n log level low high e =
+    let more : log < level → 2 ^ suc log ≤ 2 ^ level = λ l. pow_mono l in
+    let twice : 2 ^ suc log ≡ 2 * 2 ^ log = pow-succ' 2 log in
+    grind (arith, pow_below level log)
+
+-- a width is at least 2, and there may be as many ends
+pub width-some : (width : ℕ) → IsWidth width → 2 ≤ width
+width-some width (level, w) = let least : 2 ^ 1 ≤ 2 ^ level = pow_mono w.some in omega (arith, w.wide)
+
+pub width-few : (level : ℕ) → level ≤ MOST_LEVEL → 2 ^ level ≤ MOST_ENDS
+width-few level small =
+    let most : 2 ^ level ≤ 2 ^ MOST_LEVEL = pow_mono small in
+    let all : 2 ^ MOST_LEVEL ≤ MOST_ENDS = lit≤ tt in
+    omega arith
 
 -- the entries of a width are a row of its level, and so are their flows
 pub entries-row : (width level : ℕ) → IsWidthOf level width → IsRow level (range_with_len 0 width)

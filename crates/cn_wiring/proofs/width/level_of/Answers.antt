@@ -1,5 +1,5 @@
 use Rattle.cn_wiring.proofs.Common.{◌^◌, ◌∙◌, sym, ap, arith}
-use Rattle.cn_wiring.proofs.WidthLemmas.{level-is-log, width-some}
+use Rattle.cn_wiring.proofs.Rows.{level-is-log, width-some}
 use Rattle.cn_wiring.proofs.width.level_of.Goals as goal
 use Rattle.cn_wiring.proofs.width.level_of.Goals.{else-level-le-MOST_LEVEL-via-then-level-le-MOST_LEVEL+else-width-width_of, else-level-le-MOST_LEVEL-via-else-level-le-MOST_LEVEL}
 

@@ -1,8 +1,7 @@
 use Rattle.cn_tables.proofs.Common.{subst, IsWellFormed}
 use Rattle.cn_tables.specs.Network.{Network}
 use Rattle.cn_tables.proofs.Flow.{full-flow-draft, full-flow-exists, full-flow-paths, full-flow-unique}
-use Rattle.cn_tables.proofs.Few.{full-flow-few}
-use Rattle.cn_tables.proofs.Conserve.{full-flow-sum}
+use Rattle.cn_tables.proofs.Conserve.{full-flow-few, full-flow-sum}
 use Rattle.cn_tables.proofs.counting.Counting.full_flow_laws.Goals as goal
 
 pub returns : goal.returns

@@ -1,7 +1,6 @@
 use Rattle.cn_tables.proofs.Common.{IsWellFormed}
 use Rattle.cn_tables.proofs.Flow.{full-flow-draft, full-flow-exists, full-flow-paths, full-flow-unique}
-use Rattle.cn_tables.proofs.Few.{full-flow-few}
-use Rattle.cn_tables.proofs.Conserve.{full-flow-sum}
+use Rattle.cn_tables.proofs.Conserve.{full-flow-few, full-flow-sum}
 use Rattle.cn_tables.proofs.wiring.Wiring.full_flow_laws.Goals as goal
 
 pub returns : goal.returns

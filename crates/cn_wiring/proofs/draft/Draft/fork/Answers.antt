@@ -1,6 +1,5 @@
 use Rattle.cn_wiring.proofs.Common.{◌≡◌, ◌<◌, [], ◌∷◌, ◌++◌, length, set, Some, None, arith, rules, sym, ap, MOST_BALANCERS, AllLoose, plan_of}
-use Rattle.cn_wiring.proofs.Grown.{builds-grown, orderly-grown}
-use Rattle.cn_wiring.proofs.Join.{one-stands, halves-forked, flow-unforked}
+use Rattle.cn_wiring.proofs.Grown.{builds-grown, orderly-grown, one-stands, halves-forked, flow-unforked}
 use Rattle.cn_wiring.proofs.draft.Draft.fork.Goals as goal
 
 pub index_mut-requires : goal.index_mut-requires

@@ -1,5 +1,5 @@
 use Rattle.cn_wiring.proofs.Common.{◌≡◌, ◌++◌, ◌∷◌, [], arith, rules, append_assoc}
-use Rattle.cn_wiring.proofs.Layers.{layer-none, layer-next, layer-more, layer-all}
+use Rattle.cn_wiring.proofs.Builds.{layer-none, layer-next, layer-more, layer-all}
 use Rattle.cn_wiring.proofs.draft.Draft.join_all.Goals as goal
 
 pub loop-i-init : goal.loop-i-init
