@@ -1,7 +1,7 @@
 use Rattle.cn_lists.proofs.Common.{◌≡◌, ℕ, ◌+◌, ◌==◌, List, ◌++◌, count_by, length, arith, sym, ap, ◌∙◌, subst, length-append, take-length, FloorValue, Grant, Network, Start, StoodInState, View, on, tokens_in, nobody-in, nobody-there, by_one_entry, gone_too}
 use Rattle.cn_lists.proofs.Groups.{placed-many}
 use Rattle.cn_lists.proofs.CameIn.{all-clients, came-once, nobody-stands}
-use Rattle.cn_lists.proofs.Counted.{together-deep, together-steps}
+use Rattle.cn_lists.proofs.Counted.{together-steps}
 use Rattle.cn_lists.proofs.InTurn.{walk-together}
 use Rattle.cn_lists.proofs.passing.walk_all.Goals as goal
 
@@ -78,6 +78,7 @@ returns-clause-walked g c =
     let many : length x.grants ≡ length v.grants + k =
     ap length grew ∙ length-append w.grants more ∙ (λ i. length (came.grants i) + (theirs.as_many ∙ stood) i) in
     let walk = walk-together start clients c.args.entry v w x c.come_in-count.ensures.step c.pass_all.ensures.swept in
+    let steps = together-steps start clients c.args.entry k v x net walk nobody out many in
     record {
       together = walk;
       quota = omega (arith, came.quota, left.quota);
@@ -90,8 +91,8 @@ returns-clause-walked g c =
         theirs.as_many ∙ stood,
         λ client. theirs.as_often client ∙ ap (count_by (λ e. e.1 == client)) came.there ∙ all-clients clients client,
       );
-      enough_steps = λ some. together-deep start clients c.args.entry k v x net walk nobody out many some;
-      few_steps = together-steps start clients c.args.entry k v x net walk nobody out many;
+      enough_steps = steps.1;
+      few_steps = steps.0;
       in_state = λ some. subst (λ (s : Start). StoodInState s x) (came.start ∙ c.post_laws.ensures.start
           ∙ ap (λ (h : FloorValue). h.start) c.requires.own)
           (left.in_state (omega (arith, some, stood)));
