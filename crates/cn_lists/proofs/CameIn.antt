@@ -1,5 +1,5 @@
 -- The clients of a list come in together, by one entry.
-use Rattle.cn_lists.proofs.Common.{◌≡◌, ℕ, zero, suc, ◌+◌, ◌*◌, ◌<◌, ◌≤◌, ◌==◌, inl, inr, eqb, List, [], ◌∷◌, ◌++◌, count_by, map, take, length, replicate, refl, sym, ap, ◌∙◌, subst, arith, append-nil, slice_index, Bool, View, after_enter, append_assoc, cases_eq, cases_lt, eq-eqb, get_or_past, last_on, length-map-range_with_len, ne_eqb, on, sum-below-one, sum-below-same, times_in, when, map-append, take_more, replicate-append-replicate, times, after_enters, CameIn, HaveLeft, by_one_entry, placed, all-empty, made-beyond, made_at, nobody-there, times-map}
+use Rattle.cn_lists.proofs.Common.{◌≡◌, ℕ, zero, suc, ◌+◌, ◌*◌, ◌<◌, ◌≤◌, ◌==◌, inl, inr, eqb, List, [], ◌∷◌, ◌++◌, count_by, map, take, length, replicate, refl, sym, ap, ◌∙◌, subst, arith, append-nil, slice_index, Bool, View, after_enter, append_assoc, cases_eq, cases_lt, eq-eqb, get_or_past, last_on, length-map-range_with_len, ne_eqb, on, sum-below-one, sum-below-same, times_in, when, map-append, take_more, replicate-append-replicate, times, after_enters, CameIn, HaveLeft, by_one_entry, placed, all-empty, made-beyond, made_at, nobody-there, times-map, ◌≢◌}
 use Rattle.cn_ledger.specs.declared.client.Client.{Client}
 use Rattle.cn_lists.proofs.Groups.{placed-clients, placed-more, placed-once, read-all}
 use Rattle.cn_lists.proofs.Dealt.{off-own, on-own}
@@ -8,18 +8,7 @@ use Rattle.std.proofs.lemmas.Bool.Decides.{nat_tests}
 pub none-came : (v : View) (clients : List ℕ) (entry steps : ℕ) → ((u : ℕ) → on v.tokens u ≡ [])
     → CameIn v (record v { steps = steps }) clients entry 0
 unfolding placed
-none-came v clients entry steps out = record {
-  start = refl;
-  quota = omega arith;
-  entries = sym (append-nil v.entries);
-  came = sym (append-nil v.came);
-  seen = refl;
-  loads = refl;
-  grants = refl;
-  wires = refl;
-  there = out entry;
-  others = λ u other. out u;
-}
+none-came v clients entry steps out = search (append-nil, arith)
 
 -- one more stands last on its wire
 entered-on : (token client entry : ℕ) (w : View) → entry < length w.tokens → (u : ℕ)
@@ -41,23 +30,18 @@ came-more v w clients entry steps k is inside some less =
     let by : ℕ → Client = λ id. record { id = id; entry = entry } in
     let next : suc k ≡ k + 1 = omega arith in
     let at : 0 + 1 * k ≡ k = omega arith in
-    record {
-      start = is.start;
-      quota = omega (arith, is.quota, some);
-      entries = ap (λ (es : List ℕ). es ++ entry ∷ []) is.entries ∙ append_assoc v.entries (replicate k entry) (entry ∷ [])
-          ∙ ap (λ (es : List ℕ). v.entries ++ es) (replicate-append-replicate k 1 entry ∙ ap (λ (n : ℕ). replicate n entry) (sym next));
-      came = ap (λ (cs : List Client). cs ++ by client ∷ []) is.came
-          ∙ append_assoc v.came (by_one_entry entry (take k clients)) (by client ∷ [])
-          ∙ ap (λ (cs : List Client). v.came ++ cs) (sym (map-append by (take k clients) (client ∷ []))
-          ∙ ap (map by) (sym (ap (λ (j : ℕ). take j clients) next ∙ take_more clients k 0 less)));
-      seen = is.seen;
-      loads = is.loads;
-      grants = is.grants;
-      wires = length-map-range_with_len (λ u. on w.tokens u ++ last_on k client entry u) 0 (length w.tokens) ∙ is.wires;
-      there = add entry ∙ (λ i. is.there i ++ on-own k client entry entry refl i)
-          ∙ sym (placed-more clients 0 1 k ∙ ap (λ (j : ℕ). placed clients 0 1 k ++ (j, slice_index clients j) ∷ []) at);
-      others = λ u other. add u ∙ (λ i. is.others u other i ++ off-own k client entry u (λ e. other (sym e)) i);
-    }
+    let entries = ap (λ (es : List ℕ). es ++ entry ∷ []) is.entries ∙ append_assoc v.entries (replicate k entry) (entry ∷ [])
+    ∙ ap (λ (es : List ℕ). v.entries ++ es) (replicate-append-replicate k 1 entry ∙ ap (λ (n : ℕ). replicate n entry) (sym next)) in
+    let came = ap (λ (cs : List Client). cs ++ by client ∷ []) is.came
+    ∙ append_assoc v.came (by_one_entry entry (take k clients)) (by client ∷ [])
+    ∙ ap (λ (cs : List Client). v.came ++ cs) (sym (map-append by (take k clients) (client ∷ []))
+    ∙ ap (map by) (sym (ap (λ (j : ℕ). take j clients) next ∙ take_more clients k 0 less))) in
+    let wires = length-map-range_with_len (λ u. on w.tokens u ++ last_on k client entry u) 0 (length w.tokens) in
+    let there = add entry ∙ (λ i. is.there i ++ on-own k client entry entry refl i)
+    ∙ sym (placed-more clients 0 1 k ∙ ap (λ (j : ℕ). placed clients 0 1 k ++ (j, slice_index clients j) ∷ []) at) in
+    let others : (u : ℕ) → u ≢ entry → on (after_enter k client entry w).tokens u ≡ [] =
+    λ u other. add u ∙ (λ i. is.others u other i ++ off-own k client entry u (λ e. other (sym e)) i) in
+    search arith
 
 -- so many more of them, one after the other
 pub came-on : (v w : View) (clients : List ℕ) (entry steps k n all : ℕ) → CameIn v (record w { steps = steps }) clients entry k

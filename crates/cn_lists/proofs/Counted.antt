@@ -1,5 +1,5 @@
 -- How many atomic steps a list takes.
-use Rattle.cn_lists.proofs.Common.{◌≡◌, ℕ, zero, suc, ◌+◌, ◌*◌, ◌<◌, ◌≤◌, inl, inr, List, [], ◌∷◌, length, length-append, refl, sym, ap, ◌∙◌, subst, arith, mul-le-mul_left, Balancer, End, Exit, Grant, Start, StoodInState, View, after_step, after_sweep, cases_lt, end_of, length_push, on, sum-below-part, tokens_in, IsNetwork, after_enter_all, after_enters, WalkTogether, SweptBy, after_steps, grants-kept, grants-left, kin-by, no-levels, some-inside, state-after}
+use Rattle.cn_lists.proofs.Common.{◌≡◌, ℕ, zero, suc, ◌+◌, ◌*◌, ◌<◌, ◌≤◌, inl, inr, List, [], ◌∷◌, length, length-append, refl, ap, ◌∙◌, arith, mul-le-mul_left, Balancer, End, Exit, Grant, Start, StoodInState, View, after_step, after_sweep, cases_lt, end_of, length_push, on, sum-below-part, tokens_in, IsNetwork, after_enter_all, after_enters, WalkTogether, SweptBy, after_steps, grants-kept, grants-left, kin-by, no-levels, some-inside, state-after}
 use Rattle.cn_floor.specs.declared.view.Passage.{Passage}
 use Rattle.cn_tables.proofs.CallerLemmas.{levels}
 
@@ -32,12 +32,7 @@ record HasSwept (start : Start) (wires n : ℕ) (v w : View) : Type 0 where
 has-swept : (start : Start) (n : ℕ) (wires : List ℕ) (v w : View) → StoodInState start v → SweptBy start wires v w
     → HasSwept start (length wires) n v w
 unfolding SweptBy
-has-swept start n [] v w stood same = record {
-  stood = subst (StoodInState start) (sym same) stood;
-  entries = ap (λ (x : View). length x.entries) same;
-  some = omega (arith, ap went same);
-  most = λ most. omega (arith, ap went same);
-}
+has-swept start n [] v w stood same = rw same (search arith)
 has-swept start n (wire ∷ wires) v w stood (first, some, by, rest) =
     let end = end_of start.network.table wire in
     let next : View = after_sweep wire end first v in

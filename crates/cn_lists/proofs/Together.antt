@@ -1,6 +1,6 @@
 -- One step of a party, whose tokens all pass the end of a wire together: by an exit all have left, and by a balancer once
 -- they have left from its two outputs.
-use Rattle.cn_lists.proofs.Common.{◌≡◌, ℕ, zero, suc, ◌+◌, ◌-◌, ◌*◌, ◌%◌, ◌<◌, ◌≤◌, ◌==◌, inl, inr, List, [], ◌∷◌, ◌++◌, count_by, length, refl, sym, ap, ◌∙◌, subst, arith, cond, append-nil, length-append, Balancer, Exit, Grant, Start, StoodInState, View, append_assoc, base, cases_eq, cases_lt, name_of, on, output_wire, sum_by-append, sum_by-cons, times_in, every_second, AreTheirs, HaveLeft, GoTogether, grants_out, grants-kept, grants-left, grants-many}
+use Rattle.cn_lists.proofs.Common.{◌≡◌, ℕ, zero, suc, ◌+◌, ◌-◌, ◌*◌, ◌%◌, ◌<◌, ◌≤◌, ◌==◌, inl, inr, List, [], ◌∷◌, ◌++◌, count_by, length, refl, sym, ap, ◌∙◌, subst, arith, cond, append-nil, length-append, Balancer, Exit, Grant, Start, StoodInState, View, append_assoc, base, cases_eq, cases_lt, name_of, on, output_wire, sum_by-append, sum_by-cons, times_in, every_second, AreTheirs, HaveLeft, GoTogether, grants_out, grants-kept, grants-left, grants-many, ◌≢◌}
 use Rattle.cn_lists.proofs.Dealt.{as-before, else-so, empty-so, forward, kin-so, once-so, onto, stood-so, wires-so}
 use Rattle.cn_lists.proofs.Groups.{length-dealt, sum-dealt}
 
@@ -42,24 +42,12 @@ HasLeft v w wire = HaveLeft v w wire (on v.tokens wire)
 
 -- nobody stood there
 pub nobody-left : (v : View) (wire : ℕ) → on v.tokens wire ≡ [] → HasLeft v v wire
-nobody-left v wire none = record {
-  start = refl;
-  quota = refl;
-  entries = refl;
-  came = refl;
-  seen = refl;
-  loads = refl;
-  wires = refl;
-  empty = none;
-  others = λ u other. refl;
-  grants = (
-    [],
-    sym (append-nil v.grants),
-    subst (λ (es : List (ℕ × ℕ)). AreTheirs es []) (sym none) (record { as_many = refl; as_often = λ client. refl }),
-  );
-  in_state = λ some. absurd (omega (arith, some, ap length none));
-  nobody = λ _. refl;
-}
+nobody-left v wire none =
+    let in_state : 0 < length (on v.tokens wire) → StoodInState v.start v = λ some. absurd (omega (arith, some, ap length none)) in
+    let theirs = subst (λ (es : List (ℕ × ℕ)). AreTheirs es []) (sym none) (record { as_many = refl; as_often = λ client. refl }) in
+    let grants : (more : List Grant) × (v.grants ≡ v.grants ++ more) × AreTheirs (on v.tokens wire) more =
+    ([], sym (append-nil v.grants), theirs) in
+    search
 
 -- a view that stood in a state does so too once they have left
 still-stands : {start : Start} {v w : View} {wire : ℕ} → HasLeft v w wire → v.start ≡ start → StoodInState start v
@@ -80,20 +68,14 @@ module _ {start : Start} {wire i n : ℕ} {v w : View} (go : GoTogether start wi
   left-by =
       let like = kin-so go in
       let tokens = on v.tokens wire in
-      record {
-        start = like.start;
-        quota = like.quota;
-        entries = like.entries;
-        came = like.came;
-        seen = like.seen;
-        loads = like.loads;
-        wires = like.wires;
-        empty = empty-so go;
-        others = as-before go;
-        grants = (_, grants-by, record { as_many = grants-many _ _ i n tokens; as_often = clients-out _ _ i n tokens });
-        in_state = λ _. subst (λ (s : Start). StoodInState s w) (sym go.of) (stood-so go);
-        nobody = λ none. absurd (omega (arith, go.some, none));
-      }
+      let empty = empty-so go in
+      let others = as-before go in
+      let theirs : AreTheirs tokens (grants_out start.network.table.width (base start) i n tokens) =
+      record { as_many = grants-many _ _ i n tokens; as_often = clients-out _ _ i n tokens } in
+      let grants : (more : List Grant) × (w.grants ≡ v.grants ++ more) × AreTheirs tokens more = (_, grants-by, theirs) in
+      let in_state = subst (λ (s : Start). StoodInState s w) (sym go.of) (stood-so go) in
+      let some = go.some in
+      search arith
 
 -- ---- at a balancer
 
@@ -172,32 +154,22 @@ module _ {start : Start} {wire b n : ℕ} {v w : View} (go : GoTogether start wi
         let first = subst (λ (es : List (ℕ × ℕ)). AreTheirs es more) (second-next (n % 2) refl o to1).are theirs in
         let second = subst (λ (es : List (ℕ × ℕ)). AreTheirs es most) (first-are (n % 2) refl) theirs2 in
         let begun : mid.start ≡ start = one.start ∙ like.start ∙ go.of in
-        record {
-          start = two.start ∙ one.start ∙ like.start;
-          quota = two.quota ∙ one.quota ∙ like.quota;
-          entries = two.entries ∙ one.entries ∙ like.entries;
-          came = two.came ∙ one.came ∙ like.came;
-          seen = two.seen ∙ one.seen ∙ like.seen;
-          loads = two.loads ∙ one.loads ∙ like.loads;
-          wires = two.wires ∙ one.wires ∙ like.wires;
-          empty = two.others wire (λ e. omega (arith, e, to0, forward go)) ∙ one.others wire (λ e. omega (arith, e, to1, forward go))
-              ∙ empty-so go;
-          others = λ y other. elim (cases_eq y u) [
-            | inl e ↦ rw e (two.empty ∙ sym (go.above u (omega (arith, to0, forward go))))
-            | inr not0 ↦ two.others y not0 ∙ elim (cases_eq y o) [
-              | inl e ↦ rw e (one.empty ∙ sym (go.above o (omega (arith, to1, forward go))))
-              | inr not1 ↦ one.others y not1 ∙ else-so go y other (λ e. not0 (e ∙ sym to0)) (λ e. not1 (e ∙ sym to1))
-            ]
-          ];
-          grants = (
-            more ++ most,
-            grew2 ∙ (λ k. (grew ∙ (λ j. grants-so j ++ more)) k ++ most) ∙ append_assoc v.grants more most,
-            theirs-both (n % 2) tokens more most (omega arith) first second,
-          );
-          in_state = λ _. subst (λ (s : Start). StoodInState s x) (sym go.of)
-              (still-stands two begun (still-stands one (like.start ∙ go.of) (stood-so go)));
-          nobody = λ none. absurd (omega (arith, go.some, none));
-        }
+        let empty = two.others wire (λ e. omega (arith, e, to0, forward go)) ∙ one.others wire (λ e. omega (arith, e, to1, forward go))
+        ∙ empty-so go in
+        let others : (y : ℕ) → y ≢ wire → on x.tokens y ≡ on v.tokens y = λ y other. elim (cases_eq y u) [
+          | inl e ↦ rw e (two.empty ∙ sym (go.above u (omega (arith, to0, forward go))))
+          | inr not0 ↦ two.others y not0 ∙ elim (cases_eq y o) [
+            | inl e ↦ rw e (one.empty ∙ sym (go.above o (omega (arith, to1, forward go))))
+            | inr not1 ↦ one.others y not1 ∙ else-so go y other (λ e. not0 (e ∙ sym to0)) (λ e. not1 (e ∙ sym to1))
+          ]
+        ] in
+        let grew-both = grew2 ∙ (λ k. (grew ∙ (λ j. grants-so j ++ more)) k ++ most) ∙ append_assoc v.grants more most in
+        let grants : (all : List Grant) × (x.grants ≡ v.grants ++ all) × AreTheirs tokens all =
+        (more ++ most, grew-both, theirs-both (n % 2) tokens more most (omega arith) first second) in
+        let in_state = subst (λ (s : Start). StoodInState s x) (sym go.of)
+        (still-stands two begun (still-stands one (like.start ∙ go.of) (stood-so go))) in
+        let some = go.some in
+        search arith
 
   -- a token by itself goes on to an output: once it has left from there, it has left
   pub goes-by-itself : length (on v.tokens wire) ≡ 1 → (q : ℕ) → q ≡ n % 2 → (u : ℕ) → u ≡ out q
