@@ -78,8 +78,7 @@ noted-next {before} {clients} now gone width less exit visit first stride n most
     let so_far = placed clients first stride n in
     let out : List (ℕ × ℕ) → List Grant = λ es. grants_out width less exit visit es in
     let next : n + 1 ≡ suc n = omega arith in
-    let tokens : placed clients first stride (n + 1) ≡ so_far ++ (p, slice_index clients p) ∷ [] =
-    ap (placed clients first stride) next ∙ placed-more clients first stride n in
+    let tokens = ap (placed clients first stride) next ∙ placed-more clients first stride n in
     let grows : out (placed clients first stride (n + 1)) ≡ out so_far ++ grant ∷ [] =
     ap out tokens ∙ grants-next width less exit visit (visit + n) so_far p (slice_index clients p)
     (omega (arith, placed-many clients first stride n)) ∙ (λ i. out so_far ++ sym is i ∷ []) in

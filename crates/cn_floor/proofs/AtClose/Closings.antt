@@ -116,8 +116,7 @@ module _ (start : Start) (s : State (Unit {0}) View) (id : ℕ) (v : View) (kept
       (λ i l h.
       let now : get_or s.words (1 + t.entries + t.balancers + i) 0 ≡ share (base start + length v.grants) t.width i =
       sym (count-word t s.words (Exit i) (omega arith)) ∙ end.counts i (omega arith) ∙ ap (λ (n : ℕ). share n t.width i) all in
-      let was : get_or start.words (1 + t.entries + t.balancers + i) 0 ≡ share (base start) t.width i =
-      sym (count-word t start.words (Exit i) (omega arith)) ∙ old.counts i (omega arith) in
+      let was = sym (count-word t start.words (Exit i) (omega arith)) ∙ old.counts i (omega arith) in
       λ x. now x - was x)
 
   pub closed_floor : tokens_in v.tokens ≡ 0 → clients_in start.network.table s.words ≡ base start + length v.grants

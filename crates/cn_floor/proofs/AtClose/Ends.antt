@@ -22,8 +22,7 @@ not_both c d differ q r s = elim (cases_lt 0 c) [
       let none : ◌≡◌ {A = ℕ} (when (eqb 0 c && (q && r)) 1) 0 = ap {B = ℕ} (λ b. when (b && (q && r)) 1) (ne_eqb 0 c (λ e. omega arith)) in
       omega (arith, no_more (eqb 0 d) q s)
   | inr l ↦
-      let none : ◌≡◌ {A = ℕ} (when (eqb 0 d && (q && s)) 1) 0 =
-      ap {B = ℕ} (λ b. when (b && (q && s)) 1) (ne_eqb 0 d (λ e. differ (omega arith))) in
+      let none = ap {B = ℕ} (λ b. when (b && (q && s)) 1) (ne_eqb 0 d (λ e. differ (omega arith))) in
       omega (arith, no_more (eqb 0 c) q r)
 ]
 

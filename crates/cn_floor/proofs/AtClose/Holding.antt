@@ -67,8 +67,7 @@ module _ (grants : List Grant) (names : IsEachBelow (length grants) (map (λ (g 
       let at : ℕ → ℕ = λ n. get_or holders n 0 in
       let in_order : holders ≡ map at (range_with_len 0 (length grants)) = fill_by_all at holders (length grants) 0 whole (λ k h. refl) in
       let clients : map at all ≡ map (λ (g : Grant). g.client) grants = same-lists grants (λ j d l. each j d l) in
-      let moved : IsPermutation (map at (range_with_len 0 (length grants))) (map at all) =
-      IsPermutation-map at (range_with_len 0 (length grants)) all names in
+      let moved = IsPermutation-map at (range_with_len 0 (length grants)) all names in
       record {
         all = whole;
         by_name = λ j d l. each j d l;

@@ -67,30 +67,13 @@ module _ (start : Start) (formed : IsWellFormed start.network.table) (v : View) 
         only = λ u. lists u ∙ ap (λ (es : List (ℕ × ℕ)). es ++ last_on token client to u) (nobody-else v.tokens token client wire is u);
       }
 
-  pub passed-on : OnlyPassed v (after_step token client (Balancer b) n v)
-  passed-on = record {
-    start = refl;
-    quota = refl;
-    entries = refl;
-    came = refl;
-    wires = length-map-range_with_len (λ u. without token (on v.tokens u) ++ last_on token client to u) 0 (length v.tokens);
-    grants = refl;
-    seen = refl;
-    loads = refl;
-  }
+-- it changes nothing else
+pub passed-on : (token client b n : ℕ) (v : View) → OnlyPassed v (after_step token client (Balancer b) n v)
+passed-on token client b n v = search length-map-range_with_len
 
 -- what passed and passes on
 pub passed-more : (u v w : View) → OnlyPassed u v → OnlyPassed v w → OnlyPassed u w
-passed-more u v w p q = record {
-  start = q.start ∙ p.start;
-  quota = q.quota ∙ p.quota;
-  entries = q.entries ∙ p.entries;
-  came = q.came ∙ p.came;
-  wires = q.wires ∙ p.wires;
-  grants = q.grants ∙ p.grants;
-  seen = q.seen ∙ p.seen;
-  loads = q.loads ∙ p.loads;
-}
+passed-more u v w p q = search
 
 -- and so on, from balancer to balancer
 pub passes-more : (start : Start) (token client : ℕ) (ns : List ℕ) (wire : ℕ) (v : View) (at : ℕ) (u : View) (b n : ℕ)

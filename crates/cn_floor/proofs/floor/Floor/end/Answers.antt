@@ -20,8 +20,7 @@ invariant_of-closed c =
     c.lane.invariant.small in
     let nobody : tokens_in c.lane.inside.yard.lists ≡ 0 = search rules in
     let out : tokens_in v.tokens ≡ 0 = inside-yard c.lane.inside.yard v c.lane.invariant.tokens ∙ nobody in
-    let clients : c.clients_of-clients.result ≡ clients_in start.network.table ws =
-    c.clients_of-clients.ensures ∙ ap (λ (n : Network). clients_in n.table ws) network in
+    let clients = c.clients_of-clients.ensures ∙ ap (λ (n : Network). clients_in n.table ws) network in
     let granted : c.len-granted.result ≡ length v.grants = search rules in
     let came : clients_in start.network.table ws ≡ base start + length v.grants =
     omega (arith, e.granted, c.self.invariant.base, c.if-entered-granted.false) in
@@ -66,8 +65,7 @@ returns-then-entered-granted-clause-refused c =
     let e = c.close-table.ensures.ending in
     let entered : ℕ = c.clients_of-clients.result - c.self.inside.base in
     let network : c.network.result.now ≡ start.network = c.network.ensures ∙ ap (λ (w : WordsValue). w.network) c.self.invariant.before in
-    let clients : c.clients_of-clients.result ≡ clients_in start.network.table ws =
-    c.clients_of-clients.ensures ∙ ap (λ (n : Network). clients_in n.table ws) network in
+    let clients = c.clients_of-clients.ensures ∙ ap (λ (n : Network). clients_in n.table ws) network in
     let granted : c.len-granted.result ≡ length v.grants = search rules in
     let nobody : tokens_in c.lane.inside.yard.lists ≡ 0 = search rules in
     let out : tokens_in v.tokens ≡ 0 = inside-yard c.lane.inside.yard v c.lane.invariant.tokens ∙ nobody in

@@ -97,9 +97,7 @@ module _ (g : given.Over) (c : goal.After-number_of-ends_at-in-loop-passed g) wh
       (alone-on start formed v of wires c.args.token c.args.client c.loop-passed.at b n c.loop-passed.invariant.alone (ends g before-step)))
 
   passed : OnlyPassed v c.step-number.new.post.view
-  passed =
-      subst (λ (w : View). OnlyPassed v w) (sym went)
-      (passed-on start formed v of wires c.args.token c.args.client c.loop-passed.at b n c.loop-passed.invariant.alone (ends g before-step))
+  passed = subst (OnlyPassed v) (sym went) (passed-on c.args.token c.args.client b n v)
 
   let-by : IsLetBy start v (after_step c.args.token c.args.client (Balancer b) n v) c.args.client (Balancer b) n
   let-by =
@@ -124,7 +122,7 @@ pub loop-passed-init : goal.loop-passed-init
 unfolding PassesOn
 loop-passed-init g c = record {
   home = refl;
-  passed = record { start = refl; quota = refl; entries = refl; came = refl; wires = refl; grants = refl; seen = refl; loads = refl };
+  passed = search;
   alone = c.requires.alone;
   deep = entries-first c.args.self.now.start.network
       (subst IsNetwork c.requires.network c.depth-passed-end.ensures.network) c.args.entry
