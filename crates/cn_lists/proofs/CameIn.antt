@@ -18,7 +18,8 @@ entered-on token client entry w inside u =
     elim (cases_lt u (length w.tokens)) [
       | inl l ↦ made_at w.tokens make u l
       | inr l ↦ made-beyond w.tokens make u l
-          ∙ sym (λ i. get_or_past w.tokens u [] l i ++ off-own token client entry u (λ e. omega (arith, e, l, inside)) i)
+          ∙ sym (λ i. get_or_past w.tokens u [] l i
+          ++ off-own token client entry u (λ e. omega (arith, e, l, inside)) i)
     ]
 
 came-more : (v w : View) (clients : List ℕ) (entry steps k : ℕ) → CameIn v (record w { steps = steps }) clients entry k
@@ -30,8 +31,9 @@ came-more v w clients entry steps k is inside some less =
     let by : ℕ → Client = λ id. record { id = id; entry = entry } in
     let next : suc k ≡ k + 1 = omega arith in
     let at : 0 + 1 * k ≡ k = omega arith in
-    let entries = ap (λ (es : List ℕ). es ++ entry ∷ []) is.entries ∙ append_assoc v.entries (replicate k entry) (entry ∷ [])
-    ∙ ap (λ (es : List ℕ). v.entries ++ es) (replicate-append-replicate k 1 entry ∙ ap (λ (n : ℕ). replicate n entry) (sym next)) in
+    let entries = ap (λ (es : List ℕ). es ++ entry ∷ []) is.entries
+    ∙ append_assoc v.entries (replicate k entry) (entry ∷ [])
+    ∙ (λ i. v.entries ++ (replicate-append-replicate k 1 entry ∙ (λ j. replicate (sym next j) entry)) i) in
     let came = ap (λ (cs : List Client). cs ++ by client ∷ []) is.came
     ∙ append_assoc v.came (by_one_entry entry (take k clients)) (by client ∷ [])
     ∙ ap (λ (cs : List Client). v.came ++ cs) (sym (map-append by (take k clients) (client ∷ []))
@@ -44,8 +46,9 @@ came-more v w clients entry steps k is inside some less =
     search arith
 
 -- so many more of them, one after the other
-pub came-on : (v w : View) (clients : List ℕ) (entry steps k n all : ℕ) → CameIn v (record w { steps = steps }) clients entry k
-    → entry < length v.tokens → all ≡ k + n → all ≤ v.quota → all ≤ length clients
+pub came-on : (v w : View) (clients : List ℕ) (entry steps k n all : ℕ)
+    → CameIn v (record w { steps = steps }) clients entry k → entry < length v.tokens
+    → all ≡ k + n → all ≤ v.quota → all ≤ length clients
     → CameIn v (record (after_enters clients entry k n w) { steps = steps }) clients entry all
 unfolding after_enters
 came-on v w clients entry steps k zero all is inside to enough within =

@@ -1,5 +1,5 @@
 -- How many atomic steps a list takes.
-use Rattle.cn_lists.proofs.Common.{◌≡◌, ℕ, zero, suc, ◌+◌, ◌*◌, ◌<◌, ◌≤◌, inl, inr, List, [], ◌∷◌, length, length-append, refl, ap, ◌∙◌, arith, mul-le-mul_left, Balancer, End, Exit, Grant, Start, StoodInState, View, after_step, after_sweep, cases_lt, end_of, length_push, on, sum-below-part, tokens_in, IsNetwork, after_enter_all, after_enters, WalkTogether, SweptBy, after_steps, grants-kept, grants-left, kin-by, no-levels, some-inside, state-after}
+use Rattle.cn_lists.proofs.Common.{◌≡◌, ℕ, zero, suc, ◌+◌, ◌*◌, ◌<◌, ◌≤◌, inl, inr, List, [], ◌∷◌, length, length-append, refl, ap, ◌∙◌, arith, mul-le-mul_left, Balancer, End, Exit, Grant, Start, StoodInState, View, after_step, after_sweep, cases_lt, end_of, length_push, on, sum-below-part, tokens_in, IsNetwork, after_enters, WalkTogether, SweptBy, after_steps, grants-kept, grants-left, kin-by, no-levels, some-inside, state-after}
 use Rattle.cn_floor.specs.declared.view.Passage.{Passage}
 use Rattle.cn_tables.proofs.CallerLemmas.{levels}
 
@@ -80,7 +80,7 @@ together-steps start clients entry n v w net walk none out more =
     let d : ℕ = start.network.depth + 1 in
     let before = out-went start v net (step.old, record { id = step.id; here = step.here; kept = step.kept_before }) none in
     let came = came-went clients entry 0 (length clients) v in
-    let swept = has-swept start n walk.wires (after_enter_all clients entry v) w (state-after _ _ _ _ step) walk.swept in
+    let swept = has-swept start n walk.wires _ w (state-after _ _ _ _ step) walk.swept in
     let after = out-went start w net swept.stood out in
     let all : d * length w.grants ≡ d * length v.grants + d * n = ap (λ (k : ℕ). d * k) more ∙ omega arith in
     let most = swept.most (omega (arith, swept.entries, after.0, more, came.1)) in (

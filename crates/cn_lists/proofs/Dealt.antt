@@ -32,7 +32,7 @@ module _ {start : Start} {wire : ℕ} {end : End} {n : ℕ} {v w : View} (go : G
       kept = others-on x.tokens e.0 e.1 wire rest may.once (omega (arith, go.low, may.wires)) may.on_wire u other
 
       by : (to : End) → Stands t to → on (after_step e.0 e.1 to m x).tokens u ≡ on x.tokens u ++ lands t to m e u
-      by (Exit i) stands = lists-after-on x.tokens e.0 (λ _. []) (λ _ _. refl) u ∙ ap (λ (es : List (ℕ × ℕ)). es ++ []) kept
+      by (Exit i) stands = lists-after-on x.tokens e.0 (λ _. []) (λ _ _. refl) u ∙ (λ k. kept k ++ [])
       by (Balancer b) stands =
           let to : ℕ = output_wire x.start.network.table b (m % 2) in
           let same : to ≡ output_wire t b (m % 2) = ap (λ (s : Start). output_wire s.network.table b (m % 2)) may.of in
@@ -108,7 +108,8 @@ module _ {start : Start} {wire b n : ℕ} {v w : View} (go : GoTogether start wi
   unfolding comes
   comes-else m [] u first second = refl
   comes-else m (e ∷ rest) u first second =
-      (λ i. off-own e.0 e.1 (out (m % 2)) u (λ at. omega (arith, at, first, second)) i ++ comes-else (m + 1) rest u first second i)
+      (λ i. off-own e.0 e.1 (out (m % 2)) u (λ at. omega (arith, at, first, second)) i
+      ++ comes-else (m + 1) rest u first second i)
 
   pub forward : wire < start.network.table.entries + 2 * b
   forward = subst (LeadsOn start.network.table wire) go.ends (go.formed.forward wire go.low)

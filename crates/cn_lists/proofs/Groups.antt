@@ -45,7 +45,7 @@ placed-more clients first stride (suc n) =
     ∙ ap (λ (k : ℕ). placed clients (first + stride) stride n ++ (k, slice_index clients k) ∷ []) at)
 
 -- the places, and the clients, of those who stand at each place
-pub all-places : (clients : List ℕ) (first n : ℕ) → map (λ (e : ℕ × ℕ). e.0) (placed clients first 1 n) ≡ range_with_len first n
+pub all-places : (clients : List ℕ) (first n : ℕ) → map (λ e. e.0) (placed clients first 1 n) ≡ range_with_len first n
 unfolding placed
 all-places clients first zero = refl
 all-places clients first (suc n) = ap (λ (ks : List ℕ). first ∷ ks) (all-places clients (first + 1) n)
@@ -54,7 +54,7 @@ pub placed-clients : (clients : List ℕ) (first n : ℕ)
     → map (λ (e : ℕ × ℕ). e.1) (placed clients first 1 n) ≡ map (λ k. slice_index clients k) (range_with_len first n)
 unfolding placed
 placed-clients clients first zero = refl
-placed-clients clients first (suc n) = ap (λ (xs : List ℕ). slice_index clients first ∷ xs) (placed-clients clients (first + 1) n)
+placed-clients clients first (suc n) = λ i. slice_index clients first ∷ placed-clients clients (first + 1) n i
 
 pub read-all : (xs : List ℕ) (n : ℕ) → length xs ≡ n → map (λ k. slice_index xs k) (range_with_len 0 n) ≡ xs
 read-all xs n long =
@@ -64,7 +64,8 @@ read-all xs n long =
     (λ i low. get_or-map-range_with_len at 0 n i i 0 (omega (arith, low, many)) (omega arith))
 
 -- each place is one of a list's at most once
-pub placed-times : (clients : List ℕ) (n k : ℕ) → count_by (λ e. e.0 == k) (placed clients 0 1 n) ≡ times k (range_with_len 0 n)
+pub placed-times : (clients : List ℕ) (n k : ℕ)
+    → count_by (λ e. e.0 == k) (placed clients 0 1 n) ≡ times k (range_with_len 0 n)
 placed-times clients n k =
     sym (times-map (λ (e : ℕ × ℕ). e.0) k (placed clients 0 1 n)) ∙ ap (times k) (all-places clients 0 n)
 

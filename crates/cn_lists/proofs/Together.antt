@@ -1,5 +1,5 @@
--- One step of a party, whose tokens all pass the end of a wire together: by an exit all have left, and by a balancer once
--- they have left from its two outputs.
+-- One step of a party, whose tokens all pass the end of a wire together: by an exit all have left, and by a balancer
+-- once they have left from its two outputs.
 use Rattle.cn_lists.proofs.Common.{◌≡◌, ℕ, zero, suc, ◌+◌, ◌-◌, ◌*◌, ◌%◌, ◌<◌, ◌≤◌, ◌==◌, inl, inr, List, [], ◌∷◌, ◌++◌, count_by, length, refl, sym, ap, ◌∙◌, subst, arith, cond, append-nil, length-append, Balancer, Exit, Grant, Start, StoodInState, View, append_assoc, base, cases_eq, cases_lt, name_of, on, output_wire, sum_by-append, sum_by-cons, times_in, every_second, AreTheirs, HaveLeft, GoTogether, grants_out, grants-kept, grants-left, grants-many, ◌≢◌}
 use Rattle.cn_lists.proofs.Dealt.{as-before, else-so, empty-so, forward, kin-so, once-so, onto, stood-so, wires-so}
 use Rattle.cn_lists.proofs.Groups.{length-dealt, sum-dealt}
@@ -43,8 +43,9 @@ HasLeft v w wire = HaveLeft v w wire (on v.tokens wire)
 -- nobody stood there
 pub nobody-left : (v : View) (wire : ℕ) → on v.tokens wire ≡ [] → HasLeft v v wire
 nobody-left v wire none =
-    let in_state : 0 < length (on v.tokens wire) → StoodInState v.start v = λ some. absurd (omega (arith, some, ap length none)) in
-    let theirs = subst (λ (es : List (ℕ × ℕ)). AreTheirs es []) (sym none) (record { as_many = refl; as_often = λ client. refl }) in
+    let in_state : 0 < length (on v.tokens wire) → StoodInState v.start v =
+    λ some. absurd (omega (arith, some, ap length none)) in
+    let theirs : AreTheirs (on v.tokens wire) [] = rw none (record { as_many = refl; as_often = λ client. refl }) in
     let grants : (more : List Grant) × (v.grants ≡ v.grants ++ more) × AreTheirs (on v.tokens wire) more =
     ([], sym (append-nil v.grants), theirs) in
     search
@@ -72,7 +73,8 @@ module _ {start : Start} {wire i n : ℕ} {v w : View} (go : GoTogether start wi
       let others = as-before go in
       let theirs : AreTheirs tokens (grants_out start.network.table.width (base start) i n tokens) =
       record { as_many = grants-many _ _ i n tokens; as_often = clients-out _ _ i n tokens } in
-      let grants : (more : List Grant) × (w.grants ≡ v.grants ++ more) × AreTheirs tokens more = (_, grants-by, theirs) in
+      let grants : (more : List Grant) × (w.grants ≡ v.grants ++ more) × AreTheirs tokens more =
+      (_, grants-by, theirs) in
       let in_state = subst (λ (s : Start). StoodInState s w) (sym go.of) (stood-so go) in
       let some = go.some in
       search arith
@@ -112,7 +114,8 @@ module _ {start : Start} {wire b n : ℕ} {v w : View} (go : GoTogether start wi
       ∙ go.above u (omega (arith, more, forward go))
 
   -- those of the second output
-  pub second-next : (q : ℕ) → q ≡ n % 2 → (u : ℕ) → u ≡ out 1 → MayPass start v w u (every_second (1 - q) (on v.tokens wire))
+  pub second-next : (q : ℕ) → q ≡ n % 2 → (u : ℕ) → u ≡ out 1
+      → MayPass start v w u (every_second (1 - q) (on v.tokens wire))
   second-next q is u to = record {
     of = (kin-so go).start;
     loads = (kin-so go).loads;
@@ -126,7 +129,8 @@ module _ {start : Start} {wire b n : ℕ} {v w : View} (go : GoTogether start wi
   module _ {mid : View} {o u : ℕ} (one : HasLeft w mid o) (to1 : o ≡ out 1) (to0 : u ≡ out 0) where
     first-are : (q : ℕ) → q ≡ n % 2 → on mid.tokens u ≡ every_second q (on v.tokens wire)
     first-are q is =
-        one.others u (λ e. omega (arith, e, to0, to1)) ∙ ap (on w.tokens) to0 ∙ onto go 0 q (omega arith) (omega (arith, is))
+        one.others u (λ e. omega (arith, e, to0, to1)) ∙ ap (on w.tokens) to0
+        ∙ onto go 0 q (omega arith) (omega (arith, is))
 
     -- once they have left, those of the first
     pub first-next : ((token : ℕ) → times_in mid.tokens token ≤ 1) → (q : ℕ) → q ≡ n % 2
@@ -154,8 +158,8 @@ module _ {start : Start} {wire b n : ℕ} {v w : View} (go : GoTogether start wi
         let first = subst (λ (es : List (ℕ × ℕ)). AreTheirs es more) (second-next (n % 2) refl o to1).are theirs in
         let second = subst (λ (es : List (ℕ × ℕ)). AreTheirs es most) (first-are (n % 2) refl) theirs2 in
         let begun : mid.start ≡ start = one.start ∙ like.start ∙ go.of in
-        let empty = two.others wire (λ e. omega (arith, e, to0, forward go)) ∙ one.others wire (λ e. omega (arith, e, to1, forward go))
-        ∙ empty-so go in
+        let empty = two.others wire (λ e. omega (arith, e, to0, forward go))
+        ∙ one.others wire (λ e. omega (arith, e, to1, forward go)) ∙ empty-so go in
         let others : (y : ℕ) → y ≢ wire → on x.tokens y ≡ on v.tokens y = λ y other. elim (cases_eq y u) [
           | inl e ↦ rw e (two.empty ∙ sym (go.above u (omega (arith, to0, forward go))))
           | inr not0 ↦ two.others y not0 ∙ elim (cases_eq y o) [
@@ -163,7 +167,7 @@ module _ {start : Start} {wire b n : ℕ} {v w : View} (go : GoTogether start wi
             | inr not1 ↦ one.others y not1 ∙ else-so go y other (λ e. not0 (e ∙ sym to0)) (λ e. not1 (e ∙ sym to1))
           ]
         ] in
-        let grew-both = grew2 ∙ (λ k. (grew ∙ (λ j. grants-so j ++ more)) k ++ most) ∙ append_assoc v.grants more most in
+        let grew-both = grew2 ∙ (λ k. (grew ∙ (λ j. grants-so j ++ more)) k ++ most) ∙ append_assoc _ more most in
         let grants : (all : List Grant) × (x.grants ≡ v.grants ++ all) × AreTheirs tokens all =
         (more ++ most, grew-both, theirs-both (n % 2) tokens more most (omega arith) first second) in
         let in_state = subst (λ (s : Start). StoodInState s x) (sym go.of)

@@ -12,7 +12,8 @@ module _ {lane seen : LaneValue} {floor : FloorValue} (held : lane ≡ seen) (ow
   home-network is = ap (λ (s : Start). s.network) (home-start refl) ∙ sym is
 
   pub view-start : {f : FloorValue} → seen.view.start ≡ seen.home.start → f ≡ floor → lane.view.start ≡ f.start
-  view-start began is = ap (λ (l : LaneValue). l.view.start) held ∙ began ∙ ap (λ (h : FloorValue). h.start) (own ∙ sym is)
+  view-start began is =
+      ap (λ (l : LaneValue). l.view.start) held ∙ began ∙ ap (λ (h : FloorValue). h.start) (own ∙ sym is)
 
   pub view-network : {network : Network} → seen.view.start ≡ seen.home.start → network ≡ floor.start.network
       → lane.view.start.network ≡ network
@@ -20,8 +21,8 @@ module _ {lane seen : LaneValue} {floor : FloorValue} (held : lane ≡ seen) (ow
 
 -- ---- the lists of a yard whose token goes to a wire, or out
 
-pub moved-lists : (y z : Yard) (v : View) (token client b n to : ℕ) → y.lists ≡ v.tokens → to ≡ output_wire v.start.network.table b (n % 2)
-    → Moves y z token client to
+pub moved-lists : (y z : Yard) (v : View) (token client b n to : ℕ) → y.lists ≡ v.tokens
+    → to ≡ output_wire v.start.network.table b (n % 2) → Moves y z token client to
     → z.lists ≡ (after_step token client (Balancer b) n v).tokens
 moved-lists y z v token client b n to same at moves =
     made v.tokens (λ u. without token (get_or v.tokens u []) ++ last_on token client (output_wire v.start.network.table b (n % 2)) u)
@@ -47,7 +48,8 @@ module _ (old new : Inside) (token client : ℕ) (kept : IsLane old) (home : new
       → length old.grants.items + tokens_in old.yard.lists + 1 ≤ vec_capacity old.grants → IsLane new
   lane-in entry view yard grants some room fit = record {
     tokens =
-        made v.tokens (λ u. get_or v.tokens u [] ++ last_on token client entry u) new.yard.lists (yard.wires ∙ ap length kept.tokens)
+        made v.tokens (λ u. get_or v.tokens u [] ++ last_on token client entry u) new.yard.lists
+        (yard.wires ∙ ap length kept.tokens)
         (λ u. yard.lists u ∙ (λ i. get_or (kept.tokens i) u [] ++ last_on token client entry u))
         ∙ ap (λ (w : View). w.tokens) (sym view);
     grants = ap (λ g. g.items) grants ∙ kept.grants ∙ ap (λ (w : View). w.grants) (sym view);
@@ -61,7 +63,7 @@ module _ (old new : Inside) (token client : ℕ) (kept : IsLane old) (home : new
       → Moves old.yard new.yard token client to
       → new.grants ≡ old.grants → new.room ≡ old.room → IsLane new
   lane-on b n to at view yard grants room = record {
-    tokens = moved-lists old.yard new.yard v token client b n to kept.tokens at yard ∙ ap (λ (w : View). w.tokens) (sym view);
+    tokens = moved-lists _ new.yard v token client b n to kept.tokens at yard ∙ ap (λ (w : View). w.tokens) (sym view);
     grants = ap (λ g. g.items) grants ∙ kept.grants ∙ ap (λ (w : View). w.grants) (sym view);
     small = subst FitsLanes (ap (λ (h : FloorValue). h.start) (sym home)) kept.small;
     few = omega (arith, kept.few, yard.tokens, ap (λ (w : View). w.quota) view);

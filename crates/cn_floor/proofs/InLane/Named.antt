@@ -1,5 +1,5 @@
 -- A client that walks through by itself.
-use Rattle.cn_floor.proofs.Common.{◌≡◌, ℕ, ◌+◌, ◌-◌, ◌%◌, ◌^◌, ◌<◌, ◌≤◌, ◌++◌, ◌∷◌, inl, inr, All, List, [], get_or, length, replicate, refl, sym, subst, ap, ◌∙◌, arith, mul-le-mul_left, get_or-append_seam, Exit, Grant, IsAlone, IsAtomicStep, IsStart, Ledger, Start, StoodInState, View, after_enter, after_step, base, cases_lt, last_on, length-map-range_with_len, length_push, name_of, on, output_wire, without, OnlyPassed, PassesOn, IsGranted, WalksThrough, FitsLanes}
+use Rattle.cn_floor.proofs.Common.{◌≡◌, ℕ, ◌+◌, ◌-◌, ◌^◌, ◌<◌, ◌≤◌, ◌++◌, ◌∷◌, inl, inr, All, List, [], get_or, length, replicate, refl, sym, subst, ap, ◌∙◌, arith, mul-le-mul_left, get_or-append_seam, Exit, Grant, IsAlone, IsAtomicStep, IsStart, Ledger, Start, StoodInState, View, after_enter, after_step, base, cases_lt, last_on, length-map-range_with_len, length_push, name_of, on, without, OnlyPassed, PassesOn, IsGranted, WalksThrough, FitsLanes}
 use Rattle.cn_floor.proofs.Lists.{made_at, made-beyond}
 use Rattle.cn_floor.proofs.AtClose.Rises.{all-empty}
 use Rattle.cn_floor.proofs.InStates.Bounds.{few-came}
@@ -54,7 +54,7 @@ passed-only : (start : Start) (token client : ℕ) (numbers : List ℕ) (wire : 
 unfolding PassesOn
 passed-only start token client [] wire v to w (_, same) = rw same search
 passed-only start token client (n ∷ rest) wire v to w (b, ends, by, on) =
-    passed-more _ _ _ (passed-on token client b n v) (passed-only start token client rest (output_wire start.network.table b (n % 2)) _ to w on)
+    passed-more _ _ _ (passed-on token client b n v) (passed-only start token client rest _ _ to w on)
 
 -- the name of a visit is a number of 64 bits where no more can come than lanes let in
 pub name-small : (start : Start) (i n : ℕ) → IsStart start → FitsLanes start → i < start.network.table.width → n ≤ base start + start.quota
@@ -80,7 +80,7 @@ module _ (start : Start) (client entry exit visit : ℕ) (v w : View) (began : I
   more =
       let begun : is.before.start ≡ start = only.start ∙ ap (λ (x : View). x.start) is.came ∙ of in
       let had : is.before.grants ≡ v.grants = only.grants ∙ ap (λ (x : View). x.grants) is.came in
-      let named : (s : Start) → Grant = λ s. record grant { name = name_of s.network.table.width exit visit - base s } in
+      let named = λ (s : Start). record grant { name = name_of s.network.table.width exit visit - base s } in
       ap (λ (x : View). x.grants) is.after ∙ (λ i. had i ++ named (begun i) ∷ [])
 
   stood : StoodInState start w

@@ -51,9 +51,11 @@ pass_all-requires g t c _ (notes, party) =
     let next = (goes-by-itself go (c.requires.many ∙ c.if-count-eq1.true) _ c.output_of-output.ensures _ to).0 in
     let here = c.let_by-end.ensures.home ∙ c.requires.own in
     let many = ap length next.are ∙ c.requires.many in
-    let are = subst (g.P.Party.Are (g.P.Party.kept c.args.notes.now) c.args.party c.args.count) (sym next.are) c.requires.party in
+    let are = subst (g.P.Party.Are (g.P.Party.kept c.args.notes.now) c.args.party c.args.count) (sym next.are)
+    c.requires.party in
+    let room = c.requires.room in
     let less = falls _ _ _ _ _ _ _ c.decreases (forward go) to next.low in
-    (less, (notes, (party, (here, (next.low, (next.once, (c.requires.network, (many, (are, (next.above, c.requires.room))))))))))
+    (less, (notes, (party, (here, (next.low, (next.once, (c.requires.network, (many, (are, (next.above, room))))))))))
 
 pub returns-then-count-eq1-clause-left : goal.returns-then-count-eq1-clause-left
 returns-then-count-eq1-clause-left g t c =
@@ -92,8 +94,9 @@ pass_all-requires-in-Balancer-2 g t c _ (notes, party) =
     let go = rw c.in-Balancer.is at c.let_by-end.ensures.together in
     let entries = c.entries.ensures.value ∙ ap (λ (n : Network). n.table.entries) c.requires.network in
     let to = first-wire _ _ c.in-Balancer.balancer entries in
-    let next = first-next go c.pass_all-in-Balancer.ensures.left (ap (λ (e : ℕ). e + 2 * c.in-Balancer.balancer + 1) entries) to
-    c.pass_all-in-Balancer.ensures.once c.output_of-output.result c.output_of-output.ensures in
+    let next = first-next go c.pass_all-in-Balancer.ensures.left
+    (ap (λ (e : ℕ). e + 2 * c.in-Balancer.balancer + 1) entries) to
+    c.pass_all-in-Balancer.ensures.once _ c.output_of-output.ensures in
     let dealt = length-dealt c.output_of-output.result (on c.args.post.now.view.tokens c.args.wire)
     (is-low _ _ c.output_of-output.ensures) in
     let here = c.pass_all-in-Balancer.ensures.home ∙ c.let_by-end.ensures.home ∙ c.requires.own in
@@ -117,9 +120,9 @@ returns-else-count-eq1-clause-noted g t c before gone noted =
     let entries = c.entries.ensures.value ∙ ap (λ (n : Network). n.table.entries) c.requires.network in
     let second = second-next go c.output_of-output.result c.output_of-output.ensures
     _ (ap (λ (e : ℕ). e + 2 * c.in-Balancer.balancer + 1) entries) in
-    let first = first-next go c.pass_all-in-Balancer.ensures.left (ap (λ (e : ℕ). e + 2 * c.in-Balancer.balancer + 1) entries)
-    (first-wire _ _ c.in-Balancer.balancer entries) c.pass_all-in-Balancer.ensures.once c.output_of-output.result
-    c.output_of-output.ensures in
+    let first = first-next go c.pass_all-in-Balancer.ensures.left
+    (ap (λ (e : ℕ). e + 2 * c.in-Balancer.balancer + 1) entries) (first-wire _ _ c.in-Balancer.balancer entries)
+    c.pass_all-in-Balancer.ensures.once _ c.output_of-output.ensures in
     subst (λ (n : ℕ → ℕ). g.P.Party.Noted before c.pass_all-in-Balancer-2.new.post.view.grants n c.pass_all-in-Balancer-2.new.notes)
     ((λ i. gone_too (gone_too gone (second.are i)) (first.are i)) ∙ dealt-too gone c.output_of-output.result
     (on c.args.post.now.view.tokens c.args.wire) (is-low _ _ c.output_of-output.ensures))

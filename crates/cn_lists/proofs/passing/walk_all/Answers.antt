@@ -5,21 +5,6 @@ use Rattle.cn_lists.proofs.Counted.{together-steps}
 use Rattle.cn_lists.proofs.InTurn.{walk-together}
 use Rattle.cn_lists.proofs.passing.walk_all.Goals as goal
 
-pub pass_all-requires-clause-once : goal.pass_all-requires-clause-once
-pass_all-requires-clause-once g c =
-    let came = c.come_in-count.ensures.came in
-    came-once _ _ _ _ _ came
-    (omega (
-      arith,
-      came.wires,
-      c.post_laws.ensures.wires,
-      ap (λ (h : FloorValue). length h.start.network.table.ends) c.requires.own,
-      c.network-network.ensures.network.formed.wires,
-      ap (λ (n : Network). length n.table.ends) c.network-network.ensures.value,
-      ap (λ (n : Network). n.table.entries) c.network-network.ensures.value,
-      c.requires.entry,
-    ))
-
 pub pass_all-requires-clause-wire : goal.pass_all-requires-clause-wire
 pass_all-requires-clause-wire g c =
     omega (
@@ -29,6 +14,13 @@ pass_all-requires-clause-wire g c =
       ap (λ (n : Network). n.table.entries) c.network-network.ensures.value,
       c.requires.entry,
     )
+
+pub pass_all-requires-clause-once : goal.pass_all-requires-clause-once
+pass_all-requires-clause-once g c =
+    let came = c.come_in-count.ensures.came in
+    let wires = ap (λ (h : FloorValue). length h.start.network.table.ends) c.requires.own in
+    came-once _ _ _ _ _ came
+    (omega (arith, came.wires, c.post_laws.ensures.wires, wires, pass_all-requires-clause-wire g c))
 
 pub pass_all-requires-clause-many : goal.pass_all-requires-clause-many
 pass_all-requires-clause-many g c =

@@ -16,7 +16,8 @@ invariant_of-lane c =
     let v = c.lane.inside.post.view in
     let b : ℕ = c.in-Balancer.balancer in
     let n : ℕ = c.step-number.result in
-    let network = view-network c.lane.view_is c.requires.own c.lane_laws.ensures.start c.network-network.ensures.value in
+    let began = c.lane_laws.ensures.start in
+    let network = view-network c.lane.view_is c.requires.own began c.network-network.ensures.value in
     let entries = c.entries.ensures.value ∙ sym (ap (λ (x : Network). x.table.entries) network) in
     lane-on c.lane.inside _ c.args.token c.client_of-client.result c.lane.invariant c.step-number.ensures.home b n
     (c.entries.result + 2 * b + c.output_of.result)
@@ -31,7 +32,8 @@ invariant_of-lane-in-Exit c =
     let i : ℕ = c.in-Exit.exit in
     let n : ℕ = c.step-number.result in
     let begun = view-start c.lane.view_is c.requires.own c.lane_laws.ensures.start c.self.view_is in
-    let network = view-network c.lane.view_is c.requires.own c.lane_laws.ensures.start c.network-network.ensures.value in
+    let began = c.lane_laws.ensures.start in
+    let network = view-network c.lane.view_is c.requires.own began c.network-network.ensures.value in
     let width : c.width.result ≡ v.start.network.table.width = c.width.ensures.value ∙ sym (ap (λ (x : Network). x.table.width) network) in
     let base_is : c.self.inside.base ≡ base v.start = c.self.invariant.base ∙ sym (ap (λ (s : Start). base s) begun) in
     let name : c.name_of.result - c.self.inside.base ≡ name_of v.start.network.table.width i n - base v.start =

@@ -29,7 +29,7 @@ push_reserved-requires c =
 pub loop-token-smaller : goal.loop-token-smaller
 loop-token-smaller c =
     let next = first-is c.args.wire c.in-Some.token c.loop-token.yard (sym c.in-Some.is ∙ c.first.ensures) in
-    one-less c.loop-token.invariant.so_far c.requires.wire next c.release-client.new.self c.release-client.ensures.released
+    one-less c.loop-token.invariant.so_far c.requires.wire next _ c.release-client.ensures.released
 
 pub loop-token-preserved : goal.loop-token-preserved
 loop-token-preserved c =
@@ -38,9 +38,9 @@ loop-token-preserved c =
     let client = client-is so_far c.requires.wire next c.release-client.result c.release-client.ensures.client.0
     c.release-client.ensures.client.1 in
     let by : ℕ → ℕ → Grant =
-    λ client name. record { client = client; exit = c.args.exit; visit = c.loop-token.visit; name = name - c.args.base } in
+    λ client name. record { client = client; exit = c.args.exit; visit = c.loop-token.visit; name = name } in
     let grants = c.push_reserved.ensures.items
-    ∙ (λ i. c.loop-token.grants.items ++ by (client i) (c.name_of.ensures i) ∷ []) in
+    ∙ (λ i. c.loop-token.grants.items ++ by (client i) (c.name_of.ensures i - c.args.base) ∷ []) in
     record {
       so_far = leaves-on so_far c.requires.wire next c.release-client.new.self c.push_reserved.new.self.items
           c.release-client.ensures.released grants;
