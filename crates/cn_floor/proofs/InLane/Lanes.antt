@@ -1,5 +1,5 @@
 -- What a lane holds is what its view says, also after a step.
-use Rattle.cn_floor.proofs.Common.{Global, Vec, ◌≡◌, ℕ, ◌+◌, ◌-◌, ◌%◌, ◌<◌, ◌≤◌, List, [], ◌∷◌, ◌++◌, length, get_or, Some, sym, ap, ◌∙◌, subst, arith, append-nil, vec_capacity, Balancer, End, Exit, FloorValue, Grant, IsAtomicStep, IsLetBy, LaneValue, Start, View, after_enter, after_step, base, end_of, last_on, length_push, name_of, output_wire, tokens_in, without, Admits, Moves, Releases, standing, IsMoveOf, Moved, Inside, IsLane, PutsOn, StepsOn, FitsLanes, answer_at, Yard, Network, refl}
+use Rattle.cn_floor.proofs.Common.{Global, Vec, ◌≡◌, ℕ, ◌+◌, ◌-◌, ◌%◌, ◌<◌, ◌≤◌, List, [], ◌∷◌, ◌++◌, length, get_or, Some, sym, ap, ◌∙◌, subst, arith, append-nil, vec_capacity, Balancer, End, Exit, FloorValue, Grant, IsLetBy, LaneValue, Start, View, after_enter, after_step, base, end_of, last_on, length_push, name_of, output_wire, tokens_in, without, Admits, Moves, Releases, standing, Moved, Inside, IsLane, PutsOn, StepsOn, FitsLanes, answer_at, Yard, Network, refl}
 use Rattle.cn_floor.proofs.Lists.{made}
 
 -- ---- a lane of a floor, as contracts see both, has the floor's start and network
@@ -101,21 +101,17 @@ module _ (old new : LaneValue) (token client wire n : ℕ) (answer : Moved) wher
       → new.home ≡ old.home
       → new.view ≡ after_step token client end n old.view → PutsOn start end n old.yard new.yard token client → new.room ≡ old.room
       → answer ≡ answer_at start end n → IsLetBy start old.view new.view client end n → StepsOn old new token client wire n answer
-  steps-on end at stood home view yard room answered let_by =
-      let by = subst (λ (e : End). IsLetBy start old.view new.view client e n) (sym at) let_by in
-      let says : answer ≡ answer_at start (end_of start.network.table wire) n = answered ∙ ap (λ (e : End). answer_at start e n) (sym at) in
-      record {
-        stood = stood;
-        home = home;
-        view = view ∙ ap (λ (e : End). after_step token client e n old.view) (sym at);
-        yard = subst (λ (e : End). PutsOn start e n old.yard new.yard token client) (sym at) yard;
-        room = room;
-        answered = says;
-        step = subst (λ (a : Moved). IsAtomicStep start old.view new.view (λ l m. IsMoveOf start.network.table (base start) l m client a))
-            (sym says) by.step;
-        few = by.few;
-        sole = by.sole;
-      }
+  steps-on end at stood home view yard room answered let_by = record {
+    stood = stood;
+    home = home;
+    view = rw at view;
+    yard = rw at yard;
+    room = room;
+    answered = rw at answered;
+    step = rw answered let_by.step;
+    few = let_by.few;
+    sole = rw at let_by.sole;
+  }
 
 -- a lane whose list of grants got way for more keeps what it kept
 pub lane-with-way : (l : Inside) (grants : Vec Grant Global) → IsLane l → grants.items ≡ l.grants.items

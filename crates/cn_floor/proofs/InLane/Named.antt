@@ -6,7 +6,7 @@ use Rattle.cn_floor.proofs.InStates.Bounds.{few-came}
 use Rattle.cn_floor.proofs.InStates.Fresh.{load-bound-few}
 use Rattle.cn_floor.proofs.InStates.Sweeps.{lists-after-on}
 use Rattle.cn_floor.proofs.InLane.Alone.{nobody-else, off-own, passed-more, passed-on}
-use Rattle.cn_floor.proofs.InLane.Counted.{walked-steps}
+use Rattle.cn_floor.proofs.InLane.Depths.{walked-steps}
 use Rattle.cn_floor.proofs.InLane.Yards.{nobody-there}
 
 -- if nobody stands on any wire, who comes in stands alone

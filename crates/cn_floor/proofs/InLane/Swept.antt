@@ -161,9 +161,9 @@ module _ (old new : LaneValue) (wire n : ℕ) (answer : Sweep) where
       → AreLetBy start old.view new.view wire end n → SweepsOn old new wire n answer
   sweeps-on end at home view yard room answered by = record {
     home = home;
-    view = view ∙ ap (λ (e : End). after_sweep wire e n old.view) (sym at);
-    yard = subst (λ (e : End). PutsAll start wire e n old.yard new.yard) (sym at) yard;
+    view = rw at view;
+    yard = rw at yard;
     room = room;
-    answered = answered ∙ ap (λ (e : End). sweep_at e n (length (on old.yard.lists wire))) (sym at);
-    by = subst (λ (e : End). AreLetBy start old.view new.view wire e n) (sym at) by;
+    answered = rw at answered;
+    by = rw at by;
   }

@@ -65,15 +65,13 @@ returns-clause-walked g c =
     let stood : length (on w.tokens c.args.entry) ≡ k = ap length came.there ∙ placed-many clients 0 1 k in
     let (more, grew, theirs) = left.grants in
     let nobody : tokens_in v.tokens ≡ 0 = nobody-there v.tokens (λ u. ap length (c.requires.out u)) in
-    let out : tokens_in x.tokens ≡ 0 =
-    ap tokens_in (nobody-stands v w x clients c.args.entry k came left) ∙ nobody-in (length v.tokens) in
-    let many : length x.grants ≡ length v.grants + k =
-    ap length grew ∙ length-append w.grants more ∙ (λ i. length (came.grants i) + (theirs.as_many ∙ stood) i) in
+    let all = returns-clause-left g c in
+    let out : tokens_in x.tokens ≡ 0 = ap tokens_in all.gone ∙ nobody-in (length v.tokens) in
     let walk = walk-together start clients c.args.entry v w x c.come_in-count.ensures.step c.pass_all.ensures.swept in
-    let steps = together-steps start clients c.args.entry k v x net walk nobody out many in
+    let steps = together-steps start clients c.args.entry k v x net walk nobody out all.grants in
     record {
       together = walk;
-      quota = omega (arith, came.quota, left.quota);
+      quota = all.quota;
       entries = left.entries ∙ came.entries;
       came = left.came ∙ came.came ∙ (λ i. v.came ++ by_one_entry c.args.entry (take-length clients i));
       seen = left.seen ∙ came.seen;

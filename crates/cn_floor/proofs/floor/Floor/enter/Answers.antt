@@ -29,7 +29,8 @@ pub invariant_of-lane-2 : goal.invariant_of-lane-2
 invariant_of-lane-2 c =
     let kept = lane-with-way c.lane.inside _ c.lane.invariant c.make_way.ensures.items c.make_way.ensures.room in
     lane-in _ _ c.in-Ok-admit.token c.args.client kept c.enter.ensures.home c.args.entry c.enter.ensures.came.0
-    c.in-Ok-admit.ensures.ok refl (omega (arith, c.if-quota-eq0.false, c.quota.ensures)) c.saturating_sub-lane-inside.ensures c.in-Ok.ensures.ok
+    c.in-Ok-admit.ensures.ok refl (omega (arith, c.if-quota-eq0.false, c.quota.ensures))
+    c.saturating_sub-lane-inside.ensures c.in-Ok.ensures.ok
 
 pub returns-clause-ok : goal.returns-clause-ok
 returns-clause-ok c =
