@@ -1,8 +1,8 @@
 -- What proofs of other crates cite of this one. They cite nothing else of proofs/.
 
 -- tokens and their wires
-pub use Rattle.cn_floor.proofs.InLane.Yards.{first-stands, lowest-inside, nobody-in, nobody-there}
-pub use Rattle.cn_floor.proofs.InLane.Swept.{IsKin, grants-kept, grants-left, kin-by, some-inside}
+pub use Rattle.cn_floor.proofs.InLane.Yards.{first-stands, lowest-inside, nobody-in, nobody-there, some-inside}
+pub use Rattle.cn_floor.proofs.InLane.Swept.{IsKin, grants-kept, grants-left, kin-by}
 pub use Rattle.cn_floor.proofs.InLane.Named.{names-low, state-after}
 pub use Rattle.cn_floor.proofs.InLane.Outs.{grants-many, grants-next}
 -- what a lane may do, and what it did

@@ -12,7 +12,8 @@ pub use Rattle.atomic_table.specs.Table.{Act, Allows, Final, Joins, Me, Seen, Sp
 pub use Rattle.cn_ledger.specs.Ledger.{IsQuiescent, IsSound, IsTight, Ledger, all_entered, put, times_given}
 pub use Rattle.cn_spec.proofs.CallerLemmas.{at_most_once, exit_of-name_of, name-below, name_of-exit_of, once-in, once_each, one_more-at, sum-below-fewer, sum-below-front, sum-below-le, sum-below-next, sum-below-none, sum-below-one, sum-below-part, sum-below-plus, sum-below-same, sum-below-shift, sum-below-total, sum-below-zero, sum-by-same, times-append, times-below, times-map, times-member, times-nil, times-place, times-two, total-where-agree, zero_at}
 pub use Rattle.cn_spec.specs.Step.{IsEachBelow, name_of, share}
-pub use Rattle.cn_spec.specs.Sums.{once_below, sum_below, times, when}
+pub use Rattle.cn_spec.specs.Sums.{once_below, when}
+unfoldable pub use Rattle.cn_spec.specs.Sums.{sum_below, times}
 pub use Rattle.cn_tables.specs.Network.{Counts, IsNetwork, Network}
 pub use Rattle.cn_tables.specs.Table.{IsWellFormed, LeadsOn, Stands, Table, end_of, is_end, output_wire, sum_at}
 pub use Rattle.cn_tables.specs.declared.end.End.{End}

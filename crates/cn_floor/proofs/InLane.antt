@@ -5,6 +5,5 @@ pub mod Posts
 pub mod Swept
 pub mod Lanes
 pub mod Alone
-pub mod Counted
 pub mod Depths
 pub mod Named

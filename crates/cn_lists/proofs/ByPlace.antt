@@ -1,30 +1,25 @@
 -- The name of each client of a list is written at its place.
-use Rattle.cn_lists.proofs.Common.{◌≡◌, ◌≢◌, ℕ, zero, suc, ◌+◌, ◌-◌, ◌*◌, ◌<◌, ◌≤◌, ◌==◌, List, [], ◌∷◌, ◌++◌, length, map, refl, sym, ap, ◌∙◌, subst, arith, cond, get_or, slice_index, IsPermutation, ext_get_or, get_or-map, length-map, map-append, map-set, get_or-map-range_with_len, times, at_most_once, once_each, order-times, times-append, times-cons, times-map, times-nil, every_second, grants_out, grants-next, AreNamesBy, AreNoted, gone_too, placed, Grant, append_assoc, eq-eqb, length-map-range_with_len, name_of, sum_by-append, sum_by-cons}
+use Rattle.cn_lists.proofs.Common.{◌≡◌, ◌≢◌, ℕ, suc, ◌+◌, ◌-◌, ◌*◌, ◌<◌, ◌==◌, List, [], ◌∷◌, ◌++◌, length, map, refl, sym, ap, ◌∙◌, subst, arith, cond, get_or, slice_index, IsPermutation, get_or-map, length-map, map-append, map-set, times, order-times, times-append, times-cons, times-nil, every_second, grants_out, grants-next, AreNamesBy, AreNoted, gone_too, placed, Grant, append_assoc, eq-eqb, name_of, sum_by-append, sum_by-cons}
 use Rattle.std.specs.List.{range_with_len, swap}
 use Rattle.std.proofs.Math.ListN.{set}
 use Rattle.std.proofs.lemmas.List.Edits.{swap_is}
 use Rattle.std.proofs.lemmas.List.Sorted.{IsPermutation-keeps, IsPermutation-refl, IsPermutation-swap, IsPermutation-trans}
-use Rattle.cn_lists.proofs.Groups.{placed-many, placed-more, sum-dealt}
+use Rattle.cn_lists.proofs.Groups.{placed-many, placed-more, placed-once, placed-times, read-all, sum-dealt}
 
 -- ---- who has gone
 
+extend : {f g : ℕ → ℕ} → ((k : ℕ) → f k ≡ g k) → f ≡ g
+extend same = λ i k. same k i
+
 pub none-too : (gone : ℕ → ℕ) → gone_too gone [] ≡ gone
-none-too gone =
-    let same : (k : ℕ) → gone_too gone [] k ≡ gone k = λ k. omega arith in
-    λ i k. same k i
+none-too gone = extend (λ k. omega arith)
 
 both-too : (gone : ℕ → ℕ) (xs ys : List (ℕ × ℕ)) → gone_too (gone_too gone xs) ys ≡ gone_too gone (xs ++ ys)
-both-too gone xs ys =
-    let same : (k : ℕ) → gone_too (gone_too gone xs) ys k ≡ gone_too gone (xs ++ ys) k =
-    λ k. omega (arith, sum_by-append (λ (e : ℕ × ℕ). cond (e.0 == k) 1 0) xs ys) in
-    λ i k. same k i
+both-too gone xs ys = extend (λ k. omega (arith, sum_by-append (λ (e : ℕ × ℕ). cond (e.0 == k) 1 0) xs ys))
 
 pub dealt-too : (gone : ℕ → ℕ) (q : ℕ) (es : List (ℕ × ℕ)) → q < 2
     → gone_too (gone_too gone (every_second (1 - q) es)) (every_second q es) ≡ gone_too gone es
-dealt-too gone q es low =
-    let same : (k : ℕ) → gone_too (gone_too gone (every_second (1 - q) es)) (every_second q es) k ≡ gone_too gone es k =
-    λ k. omega (arith, sum-dealt (λ (e : ℕ × ℕ). cond (e.0 == k) 1 0) q es low) in
-    λ i k. same k i
+dealt-too gone q es low = extend (λ k. omega (arith, sum-dealt (λ (e : ℕ × ℕ). cond (e.0 == k) 1 0) q es low))
 
 -- ---- one more goes
 
@@ -83,8 +78,7 @@ noted-next {before} {clients} now gone width less exit visit first stride n most
     let so_far = placed clients first stride n in
     let out : List (ℕ × ℕ) → List Grant = λ es. grants_out width less exit visit es in
     let next : n + 1 ≡ suc n = omega arith in
-    let tokens : placed clients first stride (n + 1) ≡ so_far ++ (p, slice_index clients p) ∷ [] =
-    ap (placed clients first stride) next ∙ placed-more clients first stride n in
+    let tokens = ap (placed clients first stride) next ∙ placed-more clients first stride n in
     let grows : out (placed clients first stride (n + 1)) ≡ out so_far ++ grant ∷ [] =
     ap out tokens ∙ grants-next width less exit visit (visit + n) so_far p (slice_index clients p)
     (omega (arith, placed-many clients first stride n)) ∙ (λ i. out so_far ++ sym is i ∷ []) in
@@ -94,18 +88,6 @@ noted-next {before} {clients} now gone width less exit visit first stride n most
     (noted-one most new p grant was grew (ap (λ (g : Grant). g.client) is) inside long here kept)
 
 -- ---- all of a list have gone
-
-all-places : (clients : List ℕ) (first n : ℕ) → map (λ (e : ℕ × ℕ). e.0) (placed clients first 1 n) ≡ range_with_len first n
-unfolding placed
-all-places clients first zero = refl
-all-places clients first (suc n) = ap (λ (ks : List ℕ). first ∷ ks) (all-places clients (first + 1) n)
-
-read-all : (xs : List ℕ) (n : ℕ) → length xs ≡ n → map (λ k. slice_index xs k) (range_with_len 0 n) ≡ xs
-read-all xs n long =
-    let at : ℕ → ℕ = λ k. slice_index xs k in
-    let many = length-map-range_with_len at 0 n in
-    ext_get_or 0 (map at (range_with_len 0 n)) xs (many ∙ sym long)
-    (λ i low. get_or-map-range_with_len at 0 n i i 0 (omega (arith, low, many)) (omega arith))
 
 -- what is read of elements that changed places
 map-swap : {X : Type 0} (f : X → ℕ) (xs : List X) (i j : ℕ) (d : X) → i < length xs → j < length xs
@@ -147,15 +129,10 @@ pub by-place : {before now : List Grant} {clients : List ℕ} {all : List Grant}
 by-place {before} {now} {clients} {all} {names} is size =
     let n : ℕ = length clients in
     let range : List ℕ = range_with_len 0 n in
-    let tokens = placed clients 0 1 n in
-    let gone : ℕ → ℕ = gone_too (λ _. 0) tokens in
-    let once : (k : ℕ) → gone k ≡ times k range =
-    λ k. omega (arith, ap (times k) (all-places clients 0 n), times-map (λ (e : ℕ × ℕ). e.0) k tokens) in
-    let apart : (k : ℕ) → gone k ≤ 1 =
-    λ k. omega (arith, once k, once_each n range (IsPermutation-refl range) k, at_most_once n k) in
-    let order = order-times is.places range (λ k. is.often k ∙ once k) in (
+    let order = order-times is.places range (λ k. omega (arith, is.often k, placed-times clients n k)) in (
       is.more,
       is.grew,
       subst (λ (z : List ℕ × List ℕ). AreNamesBy is.more z.0 z.1) (λ i. (read-all clients n refl i, read-all names n size i))
-          (in-order (λ k. slice_index clients k) (λ k. slice_index names k) is.more is.places range order is.whose (is.called size apart)),
+          (in-order (λ k. slice_index clients k) (λ k. slice_index names k) is.more is.places range order is.whose
+          (is.called size (λ k. omega (arith, placed-once clients n k)))),
     )

@@ -25,7 +25,7 @@ pub use Rattle.cn_floor.specs.declared.view.View.{View}
 pub use Rattle.std.proofs.Common.{List, [], ap, append-nil, arith, cond, count_by, eqb, get_or, inl, inr, length, length-append, map, refl, replicate, rules, subst, suc, sum_by, sym, take, vec_capacity, zero, ℕ, ◌%◌, ◌*◌, ◌++◌, ◌+◌, ◌-◌, ◌/◌, ◌<◌, ◌==◌, ◌^◌, ◌∙◌, ◌∷◌, ◌≡◌, ◌≢◌, ◌≤◌, ◌⊎◌}
 pub use Rattle.cn_lists.specs.Listed.{AreNamesBy, AreNoted, AreTheirs, CameIn, HaveLeft, HaveWalked, ListFrame, WalkTogether, by_one_entry, gone_too}
 unfoldable pub use Rattle.cn_lists.specs.Listed.{placed}
-pub use Rattle.cn_floor.proofs.CallerLemmas.{IsKin, MayGo, all-empty, grants-kept, grants-left, grants-many, grants-next, kin-by, lists-after-on, made-beyond, made_at, names-low, no-levels, nobody-in, nobody-there, rest-may, state-after}
+pub use Rattle.cn_floor.proofs.CallerLemmas.{IsKin, MayGo, all-empty, grants-kept, grants-left, grants-many, grants-next, kin-by, lists-after-on, made-beyond, made_at, names-low, no-levels, nobody-in, nobody-there, rest-may, some-inside, state-after}
 unfoldable pub use Rattle.cn_yard.specs.Deals.{every_second}
 pub use Rattle.std.specs.Prelude.{Bool, IsPermutation, false, slice_index}
 pub use Rattle.cn_floor.specs.EntersAll.{ComeTogether, EnterInTurn, after_enter_all}

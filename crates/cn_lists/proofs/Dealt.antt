@@ -1,123 +1,135 @@
--- A sweep deals the tokens of a wire, by a balancer, to its two outputs.
-use Rattle.cn_lists.proofs.Common.{◌≡◌, ◌≢◌, ℕ, zero, suc, ◌+◌, ◌-◌, ◌*◌, ◌%◌, ◌<◌, ◌≤◌, List, [], ◌∷◌, ◌++◌, length, refl, sym, ap, ◌∙◌, subst, arith, append-nil, Balancer, IsWellFormed, LeadsOn, Stands, Start, Table, View, after_step, after_sweep, append_assoc, end_of, eq-eqb, last_on, ne_eqb, on, output_wire, times_in, every_second, others-on, after_steps, MayGo, lists-after-on, rest-may}
+-- What a sweep of a wire makes of a view: its tokens go by turns to the outputs of a balancer, or are gone.
+use Rattle.cn_lists.proofs.Common.{◌≡◌, ◌≢◌, ℕ, zero, suc, ◌+◌, ◌*◌, ◌%◌, ◌<◌, ◌≤◌, List, [], ◌∷◌, ◌++◌, length, refl, sym, ap, ◌∙◌, subst, arith, append-nil, Balancer, End, Exit, LeadsOn, Lists, Stands, Start, StoodInState, Table, View, after_step, append_assoc, eq-eqb, last_on, ne_eqb, on, output_wire, times_in, every_second, others-on, GoTogether, IsKin, kin-by, after_steps, MayGo, lists-after-on, rest-may, state-after, without}
 
-module _ (start : Start) (wire b : ℕ) (formed : IsWellFormed start.network.table) (low : wire < length start.network.table.ends)
-    (ends : end_of start.network.table wire ≡ Balancer b) (stands : Stands start.network.table (Balancer b)) where
+-- on its wire stands only the token
+pub on-own : (token client wire u : ℕ) → wire ≡ u → last_on token client wire u ≡ (token, client) ∷ []
+on-own token client wire u same = rw (eq-eqb wire u same) refl
+
+pub off-own : (token client wire u : ℕ) → wire ≢ u → last_on token client wire u ≡ []
+off-own token client wire u other = rw (ne_eqb wire u other) refl
+
+-- what comes to a wire of a token that goes by an end with this number
+abbrev lands : Table → End → ℕ → ℕ × ℕ → ℕ → List (ℕ × ℕ)
+lands t (Balancer b) n e u = last_on e.0 e.1 (output_wire t b (n % 2)) u
+lands t (Exit i) n e u = []
+
+module _ {start : Start} {wire : ℕ} {end : End} {n : ℕ} {v w : View} (go : GoTogether start wire end n v w) where
   abbrev t : Table
   t = start.network.table
 
+  abbrev tokens : List (ℕ × ℕ)
+  tokens = on v.tokens wire
+
   abbrev Goes : View → List (ℕ × ℕ) → Type 0
-  Goes v tokens = MayGo start wire (Balancer b) formed low ends stands v tokens
+  Goes x es = MayGo start wire end go.formed go.low go.ends go.stands x es
 
-  -- what comes to a wire of tokens that go by the balancer with the numbers from n on
-  comes : ℕ → List (ℕ × ℕ) → ℕ → List (ℕ × ℕ)
-  comes n [] u = []
-  comes n (e ∷ rest) u = last_on e.0 e.1 (output_wire t b (n % 2)) u ++ comes (n + 1) rest u
-
-  here : (token client w : ℕ) → last_on token client w w ≡ (token, client) ∷ []
-  here token client w = rw (eq-eqb w w refl) refl
-
-  not-here : (token client w u : ℕ) → w ≢ u → last_on token client w u ≡ []
-  not-here token client w u other = rw (ne_eqb w u other) refl
-
-  comes-first : (n : ℕ) (tokens : List (ℕ × ℕ)) → comes n tokens (output_wire t b 0) ≡ every_second (n % 2) tokens
-  unfolding comes every_second
-  comes-first n [] = by (n % 2)
+  -- the first of them goes: other wires keep what they have
+  one-on : (m : ℕ) (e : ℕ × ℕ) (rest : List (ℕ × ℕ)) (x : View) → Goes x (e ∷ rest) → (u : ℕ) → u ≢ wire
+      → on (after_step e.0 e.1 end m x).tokens u ≡ on x.tokens u ++ lands t end m e u
+  one-on m e rest x may u other = by end go.stands
     where
-      by : (q : ℕ) → [] ≡ every_second q []
-      by zero = refl
-      by (suc q) = refl
-  comes-first n ((token, client) ∷ rest) = by (n % 2) ((n + 1) % 2) (omega arith) (omega arith) (comes-first (n + 1) rest)
-    where
-      by : (q p : ℕ) → q < 2 → p ≡ 1 - q → comes (n + 1) rest (output_wire t b 0) ≡ every_second p rest
-          → last_on token client (output_wire t b q) (output_wire t b 0) ++ comes (n + 1) rest (output_wire t b 0)
-          ≡ every_second q ((token, client) ∷ rest)
-      by zero p small is later = (λ i. here token client (output_wire t b 0) i ++ later i) ∙ rw is refl
-      by (suc zero) p small is later = (λ i. not-here token client (output_wire t b 1) (output_wire t b 0) (λ e. omega (arith, e)) i
-          ++ later i) ∙ rw is refl
-      by (suc (suc q)) p small is later = absurd (omega (arith, small))
+      kept : without e.0 (on x.tokens u) ≡ on x.tokens u
+      kept = others-on x.tokens e.0 e.1 wire rest may.once (omega (arith, go.low, may.wires)) may.on_wire u other
 
-  comes-second : (n : ℕ) (tokens : List (ℕ × ℕ)) → comes n tokens (output_wire t b 1) ≡ every_second (1 - n % 2) tokens
-  unfolding comes every_second
-  comes-second n [] = by (1 - n % 2)
-    where
-      by : (q : ℕ) → [] ≡ every_second q []
-      by zero = refl
-      by (suc q) = refl
-  comes-second n ((token, client) ∷ rest) = by (n % 2) ((n + 1) % 2) (omega arith) (omega arith) (comes-second (n + 1) rest)
-    where
-      by : (q p : ℕ) → q < 2 → p ≡ 1 - q → comes (n + 1) rest (output_wire t b 1) ≡ every_second (1 - p) rest
-          → last_on token client (output_wire t b q) (output_wire t b 1) ++ comes (n + 1) rest (output_wire t b 1)
-          ≡ every_second (1 - q) ((token, client) ∷ rest)
-      by zero p small is later = (λ i. not-here token client (output_wire t b 0) (output_wire t b 1) (λ e. omega (arith, e)) i ++ later i)
-          ∙ rw is refl
-      by (suc zero) p small is later = (λ i. here token client (output_wire t b 1) i ++ later i) ∙ rw is refl
-      by (suc (suc q)) p small is later = absurd (omega (arith, small))
+      by : (to : End) → Stands t to → on (after_step e.0 e.1 to m x).tokens u ≡ on x.tokens u ++ lands t to m e u
+      by (Exit i) stands = lists-after-on x.tokens e.0 (λ _. []) (λ _ _. refl) u ∙ (λ k. kept k ++ [])
+      by (Balancer b) stands =
+          let to : ℕ = output_wire x.start.network.table b (m % 2) in
+          let same : to ≡ output_wire t b (m % 2) = ap (λ (s : Start). output_wire s.network.table b (m % 2)) may.of in
+          lists-after-on x.tokens e.0 (last_on e.0 e.1 to)
+          (λ y past. off-own e.0 e.1 to y (λ at. omega (arith, at, past, same, stands, go.formed.wires, may.wires))) u
+          ∙ (λ i. kept i ++ last_on e.0 e.1 (same i) u)
 
-  comes-else : (n : ℕ) (tokens : List (ℕ × ℕ)) (u : ℕ) → u ≢ output_wire t b 0 → u ≢ output_wire t b 1 → comes n tokens u ≡ []
-  unfolding comes
-  comes-else n [] u first second = refl
-  comes-else n ((token, client) ∷ rest) u first second =
-      (λ i. not-here token client (output_wire t b (n % 2)) u (λ e. by (n % 2) (omega arith) (sym e)) i
-      ++ comes-else (n + 1) rest u first second i)
-    where
-      by : (q : ℕ) → q < 2 → u ≢ output_wire t b q
-      by zero small = first
-      by (suc zero) small = second
-      by (suc (suc q)) small = absurd (omega (arith, small))
+  -- what comes to a wire of tokens that go with the numbers from m on
+  pub comes : ℕ → List (ℕ × ℕ) → ℕ → List (ℕ × ℕ)
+  comes m [] u = []
+  comes m (e ∷ rest) u = lands t end m e u ++ comes (m + 1) rest u
 
-  -- the first of them goes on: other wires keep what they have
-  one-on : (v : View) (token client n : ℕ) (rest : List (ℕ × ℕ)) → Goes v ((token, client) ∷ rest) → (u : ℕ) → u ≢ wire
-      → on (after_step token client (Balancer b) n v).tokens u ≡ on v.tokens u ++ last_on token client (output_wire t b (n % 2)) u
-  one-on v token client n rest may u other =
-      let to : ℕ = output_wire v.start.network.table b (n % 2) in
-      let same : to ≡ output_wire t b (n % 2) = ap (λ (s : Start). output_wire s.network.table b (n % 2)) may.of in
-      let inside : wire < length v.tokens = omega (arith, low, may.wires) in
-      let lands : to < length v.tokens = omega (arith, same, stands, formed.wires, may.wires) in
-      lists-after-on v.tokens token (last_on token client to) (λ x past. rw (ne_eqb to x (λ e. omega (arith, e, past, lands))) refl) u
-      ∙ (λ i. others-on v.tokens token client wire rest may.once inside may.on_wire u other i ++ last_on token client (same i) u)
+  all-may : (m : ℕ) (es : List (ℕ × ℕ)) (x : View) → Goes x es → Goes (after_steps end m es x) []
+  unfolding after_steps
+  all-may m [] x may = may
+  all-may m (e ∷ rest) x may =
+      all-may (m + 1) rest _ (rest-may start wire end go.formed go.low go.ends go.stands m x e.0 e.1 rest may)
 
-  -- what a view is after all of them went on
-  record HaveGone (v w : View) (n : ℕ) (tokens : List (ℕ × ℕ)) : Type 0 where
-    may : Goes w []
-    others : (u : ℕ) → u ≢ wire → on w.tokens u ≡ on v.tokens u ++ comes n tokens u
-
-  all-on : (n : ℕ) (tokens : List (ℕ × ℕ)) (v : View) → Goes v tokens → HaveGone v (after_steps (Balancer b) n tokens v) n tokens
+  all-on : (m : ℕ) (es : List (ℕ × ℕ)) (x : View) → Goes x es → (u : ℕ) → u ≢ wire
+      → on (after_steps end m es x).tokens u ≡ on x.tokens u ++ comes m es u
   unfolding after_steps comes
-  all-on n [] v may = record { may = may; others = λ u other. sym (append-nil (on v.tokens u)) }
-  all-on n ((token, client) ∷ rest) v may =
-      let next : View = after_step token client (Balancer b) n v in
-      let later = all-on (n + 1) rest next (rest-may start wire (Balancer b) formed low ends stands n v token client rest may) in
-      record {
-        may = later.may;
-        others = λ u other. later.others u other
-            ∙ ap (λ (es : List (ℕ × ℕ)). es ++ comes (n + 1) rest u) (one-on v token client n rest may u other)
-            ∙ append_assoc (on v.tokens u) (last_on token client (output_wire t b (n % 2)) u) (comes (n + 1) rest u);
-      }
+  all-on m [] x may u other = sym (append-nil (on x.tokens u))
+  all-on m (e ∷ rest) x may u other =
+      all-on (m + 1) rest _ (rest-may start wire end go.formed go.low go.ends go.stands m x e.0 e.1 rest may) u other
+      ∙ ap (λ (es : List (ℕ × ℕ)). es ++ comes (m + 1) rest u) (one-on m e rest x may u other)
+      ∙ append_assoc (on x.tokens u) (lands t end m e u) (comes (m + 1) rest u)
 
-  -- a sweep deals the tokens of a wire to the two outputs, on which nobody stood
-  pub record Dealt (v w : View) (n : ℕ) : Type 0 where
-    pub once : (k : ℕ) → times_in w.tokens k ≤ 1
-    pub wires : length w.tokens ≡ length t.ends
-    pub empty : on w.tokens wire ≡ []
-    pub first : on w.tokens (output_wire t b 0) ≡ every_second (n % 2) (on v.tokens wire)
-    pub second : on w.tokens (output_wire t b 1) ≡ every_second (1 - n % 2) (on v.tokens wire)
-    pub others : (u : ℕ) → u ≢ wire → u ≢ output_wire t b 0 → u ≢ output_wire t b 1 → on w.tokens u ≡ on v.tokens u
+  -- what the view is then
+  may : Goes v tokens
+  may = record { on_wire = refl; once = go.once; wires = go.wires; of = go.of }
 
-  pub dealt : (n : ℕ) (v : View) → Goes v (on v.tokens wire) → ((u : ℕ) → wire < u → on v.tokens u ≡ [])
-      → Dealt v (after_sweep wire (Balancer b) n v) n
-  dealt n v may above =
-      let all = all-on n (on v.tokens wire) v may in
-      let tokens = on v.tokens wire in
-      let forward : wire < t.entries + 2 * b = subst (LeadsOn t wire) ends (formed.forward wire low) in
-      record {
-        once = all.may.once;
-        wires = all.may.wires;
-        empty = all.may.on_wire;
-        first = all.others (output_wire t b 0) (λ e. omega (arith, e, forward))
-            ∙ (λ i. above (output_wire t b 0) (omega (arith, forward)) i ++ comes-first n tokens i);
-        second = all.others (output_wire t b 1) (λ e. omega (arith, e, forward))
-            ∙ (λ i. above (output_wire t b 1) (omega (arith, forward)) i ++ comes-second n tokens i);
-        others = λ u other one two. all.others u other ∙ (λ i. on v.tokens u ++ comes-else n tokens u one two i)
-            ∙ append-nil (on v.tokens u);
-      }
+  gone : Goes (after_steps end n tokens v) []
+  gone = all-may n tokens v may
+
+  lists : w.tokens ≡ (after_steps end n tokens v).tokens
+  lists = ap (λ (x : View). x.tokens) go.went
+
+  pub once-so : (k : ℕ) → times_in w.tokens k ≤ 1
+  once-so k = subst (λ (ls : Lists). times_in ls k ≤ 1) (sym lists) (gone.once k)
+
+  pub wires-so : length w.tokens ≡ length t.ends
+  wires-so = ap length lists ∙ gone.wires
+
+  pub empty-so : on w.tokens wire ≡ []
+  empty-so = ap (λ (ls : Lists). on ls wire) lists ∙ gone.on_wire
+
+  pub others-so : (u : ℕ) → u ≢ wire → on w.tokens u ≡ on v.tokens u ++ comes n tokens u
+  others-so u other = ap (λ (ls : Lists). on ls u) lists ∙ all-on n tokens v may u other
+
+  pub kin-so : IsKin v w
+  kin-so = let like = kin-by end n tokens v in rw go.went (assumption like)
+
+  pub stood-so : StoodInState start w
+  stood-so = state-after _ _ _ _ go.by.step
+
+-- by a balancer they go to its outputs
+module _ {start : Start} {wire b n : ℕ} {v w : View} (go : GoTogether start wire (Balancer b) n v w) where
+  abbrev out : ℕ → ℕ
+  out p = output_wire start.network.table b p
+
+  comes-to : (p q m : ℕ) (es : List (ℕ × ℕ)) → p < 2 → q ≡ (m + p) % 2 → comes go m es (out p) ≡ every_second q es
+  unfolding comes every_second
+  comes-to p q m [] low is = refl
+  comes-to p zero m (e ∷ rest) low is =
+      (λ i. on-own e.0 e.1 (out (m % 2)) (out p) (omega (arith, is, low)) i
+      ++ comes-to p 1 (m + 1) rest low (omega (arith, is)) i)
+  comes-to p (suc zero) m (e ∷ rest) low is =
+      (λ i. off-own e.0 e.1 (out (m % 2)) (out p) (λ at. omega (arith, is, low, at)) i
+      ++ comes-to p 0 (m + 1) rest low (omega (arith, is)) i)
+  comes-to p (suc (suc q)) m (e ∷ rest) low is = absurd (omega (arith, is))
+
+  comes-else : (m : ℕ) (es : List (ℕ × ℕ)) (u : ℕ) → u ≢ out 0 → u ≢ out 1 → comes go m es u ≡ []
+  unfolding comes
+  comes-else m [] u first second = refl
+  comes-else m (e ∷ rest) u first second =
+      (λ i. off-own e.0 e.1 (out (m % 2)) u (λ at. omega (arith, at, first, second)) i
+      ++ comes-else (m + 1) rest u first second i)
+
+  pub forward : wire < start.network.table.entries + 2 * b
+  forward = subst (LeadsOn start.network.table wire) go.ends (go.formed.forward wire go.low)
+
+  -- on each output, where nobody stood, every second stands, and on no other wire
+  pub onto : (p q : ℕ) → p < 2 → q ≡ (n + p) % 2 → on w.tokens (out p) ≡ every_second q (on v.tokens wire)
+  onto p q low is = others-so go (out p) (λ e. omega (arith, e, forward))
+      ∙ (λ i. go.above (out p) (omega (arith, forward)) i ++ comes-to p q n (on v.tokens wire) low is i)
+
+  pub else-so : (u : ℕ) → u ≢ wire → u ≢ out 0 → u ≢ out 1 → on w.tokens u ≡ on v.tokens u
+  else-so u other first second = others-so go u other
+      ∙ (λ i. on v.tokens u ++ comes-else n (on v.tokens wire) u first second i) ∙ append-nil (on v.tokens u)
+
+-- by an exit they are gone
+module _ {start : Start} {wire i n : ℕ} {v w : View} (go : GoTogether start wire (Exit i) n v w) where
+  comes-nowhere : (m : ℕ) (es : List (ℕ × ℕ)) (u : ℕ) → comes go m es u ≡ []
+  unfolding comes
+  comes-nowhere m [] u = refl
+  comes-nowhere m (e ∷ rest) u = comes-nowhere (m + 1) rest u
+
+  pub as-before : (u : ℕ) → u ≢ wire → on w.tokens u ≡ on v.tokens u
+  as-before u other = others-so go u other
+      ∙ (λ k. on v.tokens u ++ comes-nowhere n (on v.tokens wire) u k) ∙ append-nil (on v.tokens u)

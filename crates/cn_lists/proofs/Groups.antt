@@ -1,5 +1,7 @@
 -- The tokens of a list's clients who stand together, and of every second of them.
-use Rattle.cn_lists.proofs.Common.{◌≡◌, ℕ, zero, suc, ◌+◌, ◌-◌, ◌*◌, ◌/◌, ◌<◌, ◌≤◌, List, [], ◌∷◌, ◌++◌, sum_by, length, refl, ap, ◌∙◌, arith, slice_index, mul-le-mul_left, sum_by-cons, every_second, placed}
+use Rattle.std.specs.List.{range_with_len}
+use Rattle.std.proofs.lemmas.List.Sorted.{IsPermutation-refl}
+use Rattle.cn_lists.proofs.Common.{◌≡◌, ℕ, zero, suc, ◌+◌, ◌-◌, ◌*◌, ◌/◌, ◌<◌, ◌≤◌, List, [], ◌∷◌, ◌++◌, sum_by, length, refl, ap, ◌∙◌, arith, slice_index, mul-le-mul_left, sum_by-cons, every_second, placed, map, count_by, ◌==◌, sym, ext_get_or, get_or-map-range_with_len, length-map-range_with_len, times, times-map, once_each, at_most_once}
 
 -- ---- parties
 
@@ -42,15 +44,39 @@ placed-more clients first stride (suc n) =
     (placed-more clients (first + stride) stride n
     ∙ ap (λ (k : ℕ). placed clients (first + stride) stride n ++ (k, slice_index clients k) ∷ []) at)
 
+-- the places, and the clients, of those who stand at each place
+pub all-places : (clients : List ℕ) (first n : ℕ) → map (λ e. e.0) (placed clients first 1 n) ≡ range_with_len first n
+unfolding placed
+all-places clients first zero = refl
+all-places clients first (suc n) = ap (λ (ks : List ℕ). first ∷ ks) (all-places clients (first + 1) n)
+
+pub placed-clients : (clients : List ℕ) (first n : ℕ)
+    → map (λ (e : ℕ × ℕ). e.1) (placed clients first 1 n) ≡ map (λ k. slice_index clients k) (range_with_len first n)
+unfolding placed
+placed-clients clients first zero = refl
+placed-clients clients first (suc n) = λ i. slice_index clients first ∷ placed-clients clients (first + 1) n i
+
+pub read-all : (xs : List ℕ) (n : ℕ) → length xs ≡ n → map (λ k. slice_index xs k) (range_with_len 0 n) ≡ xs
+read-all xs n long =
+    let at : ℕ → ℕ = λ k. slice_index xs k in
+    let many = length-map-range_with_len at 0 n in
+    ext_get_or 0 (map at (range_with_len 0 n)) xs (many ∙ sym long)
+    (λ i low. get_or-map-range_with_len at 0 n i i 0 (omega (arith, low, many)) (omega arith))
+
+-- each place is one of a list's at most once
+pub placed-times : (clients : List ℕ) (n k : ℕ)
+    → count_by (λ e. e.0 == k) (placed clients 0 1 n) ≡ times k (range_with_len 0 n)
+placed-times clients n k =
+    sym (times-map (λ (e : ℕ × ℕ). e.0) k (placed clients 0 1 n)) ∙ ap (times k) (all-places clients 0 n)
+
+pub placed-once : (clients : List ℕ) (n k : ℕ) → count_by (λ e. e.0 == k) (placed clients 0 1 n) ≤ 1
+placed-once clients n k =
+    let range = range_with_len 0 n in
+    omega (arith, placed-times clients n k, once_each n range (IsPermutation-refl range) k, at_most_once n k)
+
 -- a part of a party stands in the list
 pub within-part : (x s k m long : ℕ) → 2 * k ≤ m → x + s * m < long → x + 2 * s * k < long
-within-part x s k m long less is =
-    let same : 2 * s * k ≡ s * (2 * k) = twice s k in
-    omega (arith, is, same, mul-le-mul_left s less)
-  where
-    twice : (s k : ℕ) → 2 * s * k ≡ s * (2 * k)
-    twice s zero = omega arith
-    twice s (suc k) = omega (arith, twice s k)
+within-part x s k m long less is = omega (arith, is, mul-le-mul_left s less)
 
 -- ---- every second of tokens, and the others, are all of them
 

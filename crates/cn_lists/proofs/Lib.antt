@@ -2,7 +2,6 @@ mod Common
 mod Groups
 mod CameIn
 mod Dealt
-mod Left
 mod Together
 mod InTurn
 mod Taken

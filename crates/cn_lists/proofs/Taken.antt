@@ -1,5 +1,5 @@
 -- Names that are taken together.
-use Rattle.cn_lists.proofs.Common.{◌≡◌, ℕ, zero, suc, ◌+◌, ◌-◌, ◌<◌, ◌≤◌, ◌^◌, ◌++◌, List, [], ◌∷◌, get_or, length, map, inl, inr, refl, sym, ap, ◌∙◌, arith, length-append, get_or-append-add, get_or_append_left, Exit, Grant, IsStart, Start, View, base, cases_lt, name_of, on, GoTogether, grants_out, AreWritten, grants-many, names-low, state-after}
+use Rattle.cn_lists.proofs.Common.{◌≡◌, ℕ, zero, suc, ◌+◌, ◌-◌, ◌<◌, ◌≤◌, ◌^◌, ◌++◌, List, [], ◌∷◌, get_or, length, map, inl, inr, sym, ap, ◌∙◌, arith, length-append, get_or-append-add, get_or_append_left, Exit, Grant, IsStart, Start, View, base, cases_lt, name_of, on, GoTogether, grants_out, AreWritten, grants-many, names-low, state-after, ext_get_or, get_or-map, length-map}
 use Rattle.cn_lists.specs.declared.taking.Names.{Names}
 use Rattle.cn_lists.proofs.Together.{grants-by}
 
@@ -13,24 +13,16 @@ grant-at width less i n (suc k) (e ∷ rest) d low =
     let same : n + 1 + k ≡ n + suc k = omega arith in
     grant-at width less i (n + 1) k rest d (omega (arith, low)) ∙ ap (λ (m : ℕ). name_of width i m - less) same
 
--- numbers that are the names of grants in turn
-pub names-are : (gs : List Grant) (names : List ℕ) → length gs ≡ length names
-    → ((k : ℕ) (d : Grant) → k < length names → get_or names k 0 ≡ (get_or gs k d).name)
-    → names ≡ map (λ (g : Grant). g.name) gs
-names-are [] [] many each = refl
-names-are [] (x ∷ xs) many each = absurd (omega (arith, many))
-names-are (g ∷ gs) [] many each = absurd (omega (arith, many))
-names-are (g ∷ gs) (x ∷ xs) many each =
-    let later = names-are gs xs (omega (arith, many)) (λ k d low. each (suc k) d (omega (arith, low))) in
-    λ j. each 0 g (omega arith) j ∷ later j
-
 -- the names of all grants are written where those of the first are not counted
 pub written-all : {notes : Names} (before more : List Grant) (names : List ℕ) → names ≡ notes.names.now → length more ≡ length names
     → AreWritten before (before ++ more) notes → names ≡ map (λ (g : Grant). g.name) more
 written-all before more names same many written =
-    names-are more names many (λ k d low. ap (λ (xs : List ℕ). get_or xs k 0) same
-    ∙ written.each k d (omega (arith, low, many, written.many, length-append before more))
-    ∙ ap (λ (g : Grant). g.name) (get_or-append-add before more k d))
+    let none : Grant = record { client = 0; exit = 0; visit = 0; name = 0 } in
+    ext_get_or 0 names (map (λ (g : Grant). g.name) more) (sym many ∙ sym (length-map more (λ (g : Grant). g.name)))
+    (λ k low. ap (λ (xs : List ℕ). get_or xs k 0) same
+    ∙ written.each k none (omega (arith, low, many, written.many, length-append before more))
+    ∙ ap (λ (g : Grant). g.name) (get_or-append-add before more k none)
+    ∙ sym (get_or-map (λ (g : Grant). g.name) more k none 0 (omega (arith, low, many))))
 
 -- tokens leave by an exit, and their names are written after those that are
 pub written-more : {before now : List Grant} {old : Names} (new : Names) (width less i n : ℕ) (tokens : List (ℕ × ℕ))
@@ -54,10 +46,6 @@ written-more {before} {now} {old} new width less i n tokens was at kept each =
             ∙ ap (λ (g : Grant). g.name) (sym (get_or-append-add now out (k - old.at) d) ∙ ap (λ (j : ℕ). get_or (now ++ out) j d) there)
       ];
     }
-
-name-next : (width i n : ℕ) → name_of width i (suc n) ≡ name_of width i n + width
-name-next zero i n = omega arith
-name-next (suc w) i n = omega (arith, name-next w i n)
 
 -- the names of all who leave together are numbers of 64 bits, and so is the next
 pub names-fit : {start : Start} {wire i n : ℕ} {v w : View} → IsStart start → GoTogether start wire (Exit i) n v w
@@ -84,4 +72,4 @@ names-fit {start} {wire} {i} {n} {v} {w} began go narrow =
     ∙ ap (λ (g : Grant). g.name) (get_or-append-add v.grants out k d)
     ∙ grant-at width (base start) i n k tokens d (omega (arith, go.some)) in
     let next : n + length tokens ≡ suc (n + k) = omega (arith, go.some) in
-    omega (arith, low, at, began.quota, began.few, narrow, ap (λ (m : ℕ). name_of width i m) next, name-next width i (n + k))
+    omega (arith, low, at, began.quota, began.few, narrow, ap (λ (m : ℕ). name_of width i m) next)

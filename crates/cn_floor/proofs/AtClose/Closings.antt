@@ -1,5 +1,5 @@
 -- A lane whose grants number all that entered did all that was done.
-use Rattle.cn_floor.proofs.Common.{◌≡◌, ℕ, zero, suc, ◌+◌, ◌≤◌, ◌<◌, ◌&&◌, inl, inr, cond, eqb, ltb, List, [], ◌∷◌, length, get_or, sum_by, count_by, sym, refl, ap, ◌∙◌, subst, arith, ◌-◌, map, End, Exit, Grant, HoldsAt, IsSound, Ledger, Stands, Start, State, View, Yard, base, cases_lt, clients_in, count_in, entered_in, eq-eqb, get_elem?, get_or_past, given_in, granted_in, ledger_of, name_of, on_in, once_below, some, standing_in, sum-below-part, sum_below, sum_by-cons, times, tokens_in, when, some-injective, some-ne-none, count_by-le-length, get_or-le-sum_by, Final, Seen, range_with_len, IsEachBelow, share, names-each, IsTight, IsEnding, IsClosedFloor, NobodyInside, counts_by_exit, times-nil}
+use Rattle.cn_floor.proofs.Common.{◌≡◌, ℕ, zero, suc, ◌+◌, ◌≤◌, ◌<◌, ◌&&◌, cond, eqb, ltb, List, [], ◌∷◌, length, get_or, sum_by, count_by, sym, refl, ap, ◌∙◌, subst, arith, ◌-◌, map, End, Exit, Grant, HoldsAt, IsSound, Ledger, Stands, Start, State, View, Yard, base, clients_in, count_in, entered_in, eq-eqb, get_elem?, given_in, granted_in, ledger_of, name_of, on_in, once_below, some, standing_in, sum_below, sum_by-cons, times, tokens_in, when, some-injective, some-ne-none, count_by-le-length, get_or-le-sum_by, Final, Seen, range_with_len, IsEachBelow, share, names-each, IsTight, IsEnding, IsClosedFloor, NobodyInside, counts_by_exit, times-nil, nobody-on}
 use Rattle.cn_ledger.specs.Grants.{Grant as Listed, ListsGrants, is_grant}
 use Rattle.cn_floor.proofs.InStates.Bounds.{all-came, few-came}
 use Rattle.cn_floor.proofs.AtClose.Ends.{carried-after, tight-after, tight-before}
@@ -16,10 +16,7 @@ at-get (y ∷ ys) (suc i) x e = let r = at-get ys i x e in (omega (arith, r.0), 
 
 -- nobody inside is nobody on each wire
 pub none-on : (v : View) → tokens_in v.tokens ≡ 0 → (u : ℕ) → on_in u v ≡ 0
-none-on v none u = elim (cases_lt u (length v.tokens)) [
-  | inl l ↦ omega (arith, sum-below-part (length v.tokens) u (λ x. on_in x v) l)
-  | inr l ↦ ap (λ (es : List (ℕ × ℕ)). length es) (get_or_past v.tokens u [] l)
-]
+none-on v none u = nobody-on v.tokens none u
 
 -- lists of the same numbers
 pub map-same : (f g : ℕ → ℕ) (a n : ℕ) → ((i : ℕ) → a ≤ i → i < a + n → f i ≡ g i) → map f (range_with_len a n) ≡ map g (range_with_len a n)
@@ -116,8 +113,7 @@ module _ (start : Start) (s : State (Unit {0}) View) (id : ℕ) (v : View) (kept
       (λ i l h.
       let now : get_or s.words (1 + t.entries + t.balancers + i) 0 ≡ share (base start + length v.grants) t.width i =
       sym (count-word t s.words (Exit i) (omega arith)) ∙ end.counts i (omega arith) ∙ ap (λ (n : ℕ). share n t.width i) all in
-      let was : get_or start.words (1 + t.entries + t.balancers + i) 0 ≡ share (base start) t.width i =
-      sym (count-word t start.words (Exit i) (omega arith)) ∙ old.counts i (omega arith) in
+      let was = sym (count-word t start.words (Exit i) (omega arith)) ∙ old.counts i (omega arith) in
       λ x. now x - was x)
 
   pub closed_floor : tokens_in v.tokens ≡ 0 → clients_in start.network.table s.words ≡ base start + length v.grants

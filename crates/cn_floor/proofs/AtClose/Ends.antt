@@ -1,31 +1,16 @@
 -- Where nobody is inside, the names of a floor are tight, and its words can be carried.
-use Rattle.cn_floor.proofs.Common.{◌≡◌, ◌≢◌, ℕ, ◌+◌, ◌<◌, ◌≤◌, ◌&&◌, inl, inr, Bool, true, false, eqb, ltb, List, [], length, get_or, sym, refl, ap, arith, Balancer, End, Exit, HoldsAt, IsClosed, IsSound, IsStart, Ledger, Stands, Start, State, Table, View, WordsValue, cases_lt, count_in, eq-eqb, le-ltb, ledger_of, lt-ltb, name_of, ne_eqb, sum-below-zero, when, word_count, eqb-true, ltb-true, is_end, sum_at, IsTight, put, AreTight, NobodyInside, IsCarried, once-in, total-where-agree, tight}
+use Rattle.cn_floor.proofs.Common.{◌≡◌, ◌≢◌, ℕ, ◌+◌, ◌<◌, ◌≤◌, ◌&&◌, inl, inr, Bool, true, eqb, ltb, List, [], length, get_or, sym, refl, arith, Balancer, End, Exit, HoldsAt, IsClosed, IsSound, IsStart, Ledger, Stands, Start, State, Table, View, WordsValue, cases_lt, count_in, eq-eqb, le-ltb, ledger_of, lt-ltb, name_of, sum-below-zero, when, word_count, eqb-true, ltb-true, is_end, sum_at, IsTight, put, AreTight, NobodyInside, IsCarried, once-in, total-where-agree, tight, nat_tests}
 
 -- ---- the ledger of words without lanes
 
 both-there : (p q r : Bool) → 1 ≤ when (p && (q && r)) 1 → (p ≡ true) × (q ≡ true) × (r ≡ true)
-both-there true true true h = (refl, refl, refl)
-both-there true true false h = absurd (omega arith)
-both-there true false r h = absurd (omega arith)
-both-there false q r h = absurd (omega arith)
+both-there p q r h = grind arith
 
 no_more : (p q r : Bool) → when (p && (q && r)) 1 ≤ when q 1
-no_more true true true = omega arith
-no_more true true false = omega arith
-no_more true false r = omega arith
-no_more false true r = omega arith
-no_more false false r = omega arith
+no_more p q r = grind arith
 
 not_both : (c d : ℕ) → c ≢ d → (q r s : Bool) → when (eqb 0 c && (q && r)) 1 + when (eqb 0 d && (q && s)) 1 ≤ when q 1
-not_both c d differ q r s = elim (cases_lt 0 c) [
-  | inl l ↦
-      let none : ◌≡◌ {A = ℕ} (when (eqb 0 c && (q && r)) 1) 0 = ap {B = ℕ} (λ b. when (b && (q && r)) 1) (ne_eqb 0 c (λ e. omega arith)) in
-      omega (arith, no_more (eqb 0 d) q s)
-  | inr l ↦
-      let none : ◌≡◌ {A = ℕ} (when (eqb 0 d && (q && s)) 1) 0 =
-      ap {B = ℕ} (λ b. when (b && (q && s)) 1) (ne_eqb 0 d (λ e. differ (omega arith))) in
-      omega (arith, no_more (eqb 0 c) q r)
-]
+not_both c d differ q r s = grind (arith, nat_tests)
 
 -- where they balance, they may be carried
 module _ (t : Table) (words : List ℕ) where

@@ -1,5 +1,6 @@
 -- The clients of a closed floor, put down at their names.
-use Rattle.cn_floor.proofs.Common.{◌≡◌, ◌≢◌, ℕ, zero, suc, ◌+◌, ◌<◌, ◌≤◌, inl, inr, cond, List, [], ◌∷◌, length, get_or, set, map, sym, refl, ap, ◌∙◌, subst, arith, length-set, IsPermutation, range_with_len, Grant, cases_eq, cases_lt, le-ltb, once_below, times, get_or-map, get_or-set_other, get_or-set_same, length-map, fill_by_all, IsEachBelow, at_most_once, once_each, times-member, times-two, ListsHolders}
+use Rattle.cn_floor.proofs.Common.{◌≡◌, ◌≢◌, ℕ, suc, ◌+◌, ◌<◌, ◌≤◌, inl, inr, cond, List, [], ◌∷◌, length, get_or, set, map, sym, refl, ap, ◌∙◌, subst, arith, length-set, IsPermutation, range_with_len, Grant, cases_eq, cases_lt, le-ltb, once_below, times, get_or-map, get_or-set_other, get_or-set_same, length-map, fill_by_all, IsEachBelow, at_most_once, once_each, times-member, times-two, ListsHolders}
+use Rattle.std.proofs.lemmas.List.{get_or_default}
 use Rattle.std.proofs.lemmas.List.Sorted.{IsPermutation-map, IsPermutation-sym}
 
 module _ (grants : List Grant) (names : IsEachBelow (length grants) (map (λ (g : Grant). g.name) grants)) where
@@ -43,23 +44,15 @@ module _ (grants : List Grant) (names : IsEachBelow (length grants) (map (λ (g 
         length-set holders g.name g.client ∙ whole,
         λ j d h. elim (cases_eq j k) [
           | inl same ↦
-              let its : get_or grants j d ≡ g = ap (λ (i : ℕ). get_or grants i d) same ∙ default k d e l in
+              let its = ap (λ (i : ℕ). get_or grants i d) same ∙ get_or_default grants k d e l in
               ap (λ (x : Grant). get_or (set holders g.name g.client) x.name 0) its
               ∙ get_or-set_same holders g.name g.client 0 (omega (arith, name-low k e l)) ∙ sym (ap (λ (x : Grant). x.client) its)
           | inr other ↦
               let differ : (get_or grants j d).name ≢ g.name =
-              λ same. names-distinct j k d (omega arith) l (same ∙ ap (λ (x : Grant). x.name) (default k e d l)) in
+              λ same. names-distinct j k d (omega arith) l (same ∙ (λ i. (get_or_default grants k e d l i).name)) in
               get_or-set_other holders g.name (get_or grants j d).name g.client 0 differ ∙ each j d (omega arith)
         ],
       )
-    where
-      default : (i : ℕ) (d e : Grant) → i < length grants → get_or grants i d ≡ get_or grants i e
-      default i d e l = defaults grants i d e l
-        where
-          defaults : (gs : List Grant) (i : ℕ) (d e : Grant) → i < length gs → get_or gs i d ≡ get_or gs i e
-          defaults [] i d e l = absurd (omega arith)
-          defaults (x ∷ gs) zero d e l = refl
-          defaults (x ∷ gs) (suc i) d e l = defaults gs i d e (omega arith)
 
   -- the clients that were granted names, each as often
   pub all-stand : (holders : List ℕ) → Stand (length grants) holders → ListsHolders grants holders
@@ -67,8 +60,7 @@ module _ (grants : List Grant) (names : IsEachBelow (length grants) (map (λ (g 
       let at : ℕ → ℕ = λ n. get_or holders n 0 in
       let in_order : holders ≡ map at (range_with_len 0 (length grants)) = fill_by_all at holders (length grants) 0 whole (λ k h. refl) in
       let clients : map at all ≡ map (λ (g : Grant). g.client) grants = same-lists grants (λ j d l. each j d l) in
-      let moved : IsPermutation (map at (range_with_len 0 (length grants))) (map at all) =
-      IsPermutation-map at (range_with_len 0 (length grants)) all names in
+      let moved = IsPermutation-map at (range_with_len 0 (length grants)) all names in
       record {
         all = whole;
         by_name = λ j d l. each j d l;

@@ -1,5 +1,5 @@
 -- What has risen since a floor began.
-use Rattle.cn_floor.proofs.Common.{◌≡◌, ℕ, zero, suc, ◌+◌, ◌<◌, ◌≤◌, ◌++◌, ◌∷◌, [], List, length, get_or, map, take, drop, replicate, sym, refl, ◌∙◌, arith, subst, range_with_len, get_or-drop, length-drop, take_more, map-range_with_len_more, Balancer, Exit, IsClosed, Lists, Start, Table, WordsValue, ledger_of, on, tokens_in, nobody-on, counts-few, client_count, HasRisen, counts_by_exit, passes_of, NoneWent}
+use Rattle.cn_floor.proofs.Common.{◌≡◌, ℕ, zero, suc, ◌+◌, ◌<◌, ◌≤◌, ◌++◌, ◌∷◌, [], List, length, get_or, map, take, drop, replicate, sym, refl, ◌∙◌, arith, subst, range_with_len, get_or-drop, length-drop, take_more, map-range_with_len_more, Balancer, Exit, IsClosed, Lists, Start, Table, WordsValue, ledger_of, on, tokens_in, nobody-on, counts-few, client_count, HasRisen, counts_by_exit, passes_of, NoneWent, nil_from_length}
 
 -- a part of a list, place by place
 part : (xs : List ℕ) (f : ℕ → ℕ) (a n : ℕ) → a + n ≤ length xs → ((i : ℕ) → i < n → get_or xs (a + i) 0 ≡ f i)
@@ -35,10 +35,6 @@ none-went w is nobody end h =
 pub all-empty : (ls : Lists) → tokens_in ls ≡ 0 → ls ≡ replicate (length ls) []
 all-empty ls none = empties ls (nobody-on ls none)
   where
-    no-length : (es : List (ℕ × ℕ)) → length es ≡ 0 → es ≡ []
-    no-length [] h = refl
-    no-length (e ∷ es) h = absurd (omega arith)
-
     empties : (xs : Lists) → ((u : ℕ) → length (on xs u) ≡ 0) → xs ≡ replicate (length xs) []
     empties [] h = refl
-    empties (x ∷ xs) h = λ i. no-length x (h zero) i ∷ empties xs (λ u. h (suc u)) i
+    empties (x ∷ xs) h = λ i. nil_from_length x (h zero) i ∷ empties xs (λ u. h (suc u)) i

@@ -1,5 +1,5 @@
 -- The only token of a view, on its way.
-use Rattle.cn_floor.proofs.Common.{◌≡◌, ◌≢◌, ℕ, ◌%◌, ◌<◌, ◌≤◌, inl, inr, cond, eqb, true, false, Bool, List, [], ◌∷◌, ◌++◌, length, sum_by, refl, sym, ap, ◌∙◌, subst, arith, nat_eq, Balancer, IsAlone, IsLetBy, IsThere, IsWellFormed, Lists, Stands, Start, Table, View, after_step, cases_eq, end_of, eq-eqb, last_on, length-map-range_with_len, ne_eqb, on, output_wire, sum-below-one, sum-below-same, times_in, when, without, mod_below, first-there, last_on-sum, OnlyPassed, PassesOn}
+use Rattle.cn_floor.proofs.Common.{◌≡◌, ◌≢◌, ℕ, ◌%◌, ◌<◌, ◌≤◌, inl, inr, cond, eqb, List, [], ◌∷◌, ◌++◌, length, sum_by, refl, sym, ap, ◌∙◌, subst, arith, nat_eq, Balancer, IsAlone, IsLetBy, IsThere, IsWellFormed, Lists, Stands, Start, Table, View, after_step, cases_eq, end_of, eq-eqb, last_on, length-map-range_with_len, ne_eqb, on, output_wire, sum-below-one, sum-below-same, times_in, when, without, mod_below, first-there, last_on-sum, OnlyPassed, PassesOn, nat_tests}
 use Rattle.cn_floor.proofs.InStates.Sweeps.{lists-after-on}
 
 -- on its wire stands only the token
@@ -16,11 +16,8 @@ module _ (lists : Lists) (token client wire : ℕ) (is : IsAlone lists token cli
       let f : ℕ × ℕ → ℕ = λ e. cond (nat_eq k e.0) 1 0 in
       let each = sum-below-same (length lists) (λ u. sum_by f (on lists u)) (λ u. when (eqb wire u) (f (token, client)))
       (λ u l. ap (sum_by f) (is.only u) ∙ last_on-sum token client wire u f) in
-      omega (arith, each, sum-below-one (length lists) wire (f (token, client)) is.inside, one (nat_eq k token))
-    where
-      one : (b : Bool) → cond {A = ℕ} b 1 0 ≤ 1
-      one true = omega arith
-      one false = omega arith
+      let one : f (token, client) ≤ 1 = grind (arith, nat_tests) in
+      omega (arith, each, sum-below-one (length lists) wire (f (token, client)) is.inside)
 
   pub there-alone : IsThere lists token client wire
   there-alone = first-there lists token client wire [] once-alone is.inside (is.only wire ∙ on-own token client wire)
@@ -28,12 +25,10 @@ module _ (lists : Lists) (token client wire : ℕ) (is : IsAlone lists token cli
   -- without it nobody is left
   pub nobody-else : (u : ℕ) → without token (on lists u) ≡ []
   nobody-else u = ap (without token) (is.only u) ∙ elim (cases_eq u wire) [
-    | inl e ↦ ap (λ (x : ℕ). without token (last_on token client wire x)) e ∙ ap (without token) (on-own token client wire) ∙ taken
+    | inl e ↦ (λ i. without token (last_on token client wire (e i))) ∙ ap (without token) (on-own token client wire)
+        ∙ rw (eq-eqb token token refl) refl
     | inr d ↦ ap (without token) (off-own token client wire u d)
   ]
-    where
-      taken : without token ((token, client) ∷ []) ≡ []
-      taken = rw (eq-eqb token token refl) refl
 
 -- it passes a balancer
 module _ (start : Start) (formed : IsWellFormed start.network.table) (v : View) (of : v.start ≡ start)
@@ -67,30 +62,13 @@ module _ (start : Start) (formed : IsWellFormed start.network.table) (v : View) 
         only = λ u. lists u ∙ ap (λ (es : List (ℕ × ℕ)). es ++ last_on token client to u) (nobody-else v.tokens token client wire is u);
       }
 
-  pub passed-on : OnlyPassed v (after_step token client (Balancer b) n v)
-  passed-on = record {
-    start = refl;
-    quota = refl;
-    entries = refl;
-    came = refl;
-    wires = length-map-range_with_len (λ u. without token (on v.tokens u) ++ last_on token client to u) 0 (length v.tokens);
-    grants = refl;
-    seen = refl;
-    loads = refl;
-  }
+-- it changes nothing else
+pub passed-on : (token client b n : ℕ) (v : View) → OnlyPassed v (after_step token client (Balancer b) n v)
+passed-on token client b n v = search length-map-range_with_len
 
 -- what passed and passes on
 pub passed-more : (u v w : View) → OnlyPassed u v → OnlyPassed v w → OnlyPassed u w
-passed-more u v w p q = record {
-  start = q.start ∙ p.start;
-  quota = q.quota ∙ p.quota;
-  entries = q.entries ∙ p.entries;
-  came = q.came ∙ p.came;
-  wires = q.wires ∙ p.wires;
-  grants = q.grants ∙ p.grants;
-  seen = q.seen ∙ p.seen;
-  loads = q.loads ∙ p.loads;
-}
+passed-more u v w p q = search
 
 -- and so on, from balancer to balancer
 pub passes-more : (start : Start) (token client : ℕ) (ns : List ℕ) (wire : ℕ) (v : View) (at : ℕ) (u : View) (b n : ℕ)

@@ -1,17 +1,46 @@
 -- What a lane holds is what its view says, also after a step.
-use Rattle.cn_floor.proofs.Common.{Global, Vec, ◌≡◌, ℕ, ◌+◌, ◌-◌, ◌%◌, ◌<◌, ◌≤◌, List, [], ◌∷◌, ◌++◌, length, get_or, Some, sym, ap, ◌∙◌, subst, arith, append-nil, vec_capacity, Balancer, End, Exit, FloorValue, Grant, IsAtomicStep, IsLetBy, LaneValue, Start, View, after_enter, after_step, base, end_of, last_on, length_push, name_of, on, output_wire, tokens_in, without, Admits, Moves, Releases, standing, IsMoveOf, Moved, Inside, IsLane, PutsOn, StepsOn, FitsLanes, answer_at}
+use Rattle.cn_floor.proofs.Common.{Global, Vec, ◌≡◌, ℕ, ◌+◌, ◌-◌, ◌%◌, ◌<◌, ◌≤◌, List, [], ◌∷◌, ◌++◌, length, get_or, Some, sym, ap, ◌∙◌, subst, arith, append-nil, vec_capacity, Balancer, End, Exit, FloorValue, Grant, IsLetBy, LaneValue, Start, View, after_enter, after_step, base, end_of, last_on, length_push, name_of, output_wire, tokens_in, without, Admits, Moves, Releases, standing, Moved, Inside, IsLane, PutsOn, StepsOn, FitsLanes, answer_at, Yard, Network, refl}
 use Rattle.cn_floor.proofs.Lists.{made}
+
+-- ---- a lane of a floor, as contracts see both, has the floor's start and network
+
+module _ {lane seen : LaneValue} {floor : FloorValue} (held : lane ≡ seen) (own : seen.home ≡ floor) where
+  pub home-start : {f : FloorValue} → f ≡ floor → lane.home.start ≡ f.start
+  home-start is = ap (λ (l : LaneValue). l.home.start) held ∙ ap (λ (h : FloorValue). h.start) (own ∙ sym is)
+
+  pub home-network : {network : Network} → network ≡ floor.start.network → lane.home.start.network ≡ network
+  home-network is = ap (λ (s : Start). s.network) (home-start refl) ∙ sym is
+
+  pub view-start : {f : FloorValue} → seen.view.start ≡ seen.home.start → f ≡ floor → lane.view.start ≡ f.start
+  view-start began is =
+      ap (λ (l : LaneValue). l.view.start) held ∙ began ∙ ap (λ (h : FloorValue). h.start) (own ∙ sym is)
+
+  pub view-network : {network : Network} → seen.view.start ≡ seen.home.start → network ≡ floor.start.network
+      → lane.view.start.network ≡ network
+  view-network began is = ap (λ (s : Start). s.network) (view-start began refl) ∙ sym is
+
+-- ---- the lists of a yard whose token goes to a wire, or out
+
+pub moved-lists : (y z : Yard) (v : View) (token client b n to : ℕ) → y.lists ≡ v.tokens
+    → to ≡ output_wire v.start.network.table b (n % 2) → Moves y z token client to
+    → z.lists ≡ (after_step token client (Balancer b) n v).tokens
+moved-lists y z v token client b n to same at moves =
+    made v.tokens (λ u. without token (get_or v.tokens u []) ++ last_on token client (output_wire v.start.network.table b (n % 2)) u)
+    z.lists (moves.wires ∙ ap length same)
+    (λ u. moves.lists u ∙ (λ i. without token (get_or (same i) u []) ++ last_on token client (at i) u))
+
+pub freed-lists : (y z : Yard) (v : View) (token client i n : ℕ) → y.lists ≡ v.tokens → Releases y z token
+    → z.lists ≡ (after_step token client (Exit i) n v).tokens
+freed-lists y z v token client i n same released =
+    made v.tokens (λ u. without token (get_or v.tokens u []) ++ []) z.lists (released.wires ∙ ap length same)
+    (λ u. released.lists u ∙ ap (λ (ls : List (List (ℕ × ℕ))). without token (get_or ls u [])) same
+    ∙ sym (append-nil (without token (get_or v.tokens u []))))
+
+-- ---- the lane
 
 module _ (old new : Inside) (token client : ℕ) (kept : IsLane old) (home : new.post.home ≡ old.post.home) where
   abbrev v : View
   v = old.post.view
-
-  -- the lists on each wire, as the view has them
-  same-on : (u : ℕ) → get_or v.tokens u [] ≡ on old.yard.lists u
-  same-on u = ap (λ (ls : List (List (ℕ × ℕ))). get_or ls u []) (sym kept.tokens)
-
-  long : length v.tokens ≡ length old.yard.lists
-  long = ap length (sym kept.tokens)
 
   -- a client came in
   pub lane-in : (entry : ℕ) → new.post.view ≡ after_enter token client entry v → Admits old.yard new.yard token client entry
@@ -19,8 +48,9 @@ module _ (old new : Inside) (token client : ℕ) (kept : IsLane old) (home : new
       → length old.grants.items + tokens_in old.yard.lists + 1 ≤ vec_capacity old.grants → IsLane new
   lane-in entry view yard grants some room fit = record {
     tokens =
-        made v.tokens (λ u. get_or v.tokens u [] ++ last_on token client entry u) new.yard.lists (yard.wires ∙ sym long)
-        (λ u. yard.lists u ∙ ap (λ (es : List (ℕ × ℕ)). es ++ last_on token client entry u) (sym (same-on u)))
+        made v.tokens (λ u. get_or v.tokens u [] ++ last_on token client entry u) new.yard.lists
+        (yard.wires ∙ ap length kept.tokens)
+        (λ u. yard.lists u ∙ (λ i. get_or (kept.tokens i) u [] ++ last_on token client entry u))
         ∙ ap (λ (w : View). w.tokens) (sym view);
     grants = ap (λ g. g.items) grants ∙ kept.grants ∙ ap (λ (w : View). w.grants) (sym view);
     small = subst FitsLanes (ap (λ (h : FloorValue). h.start) (sym home)) kept.small;
@@ -33,11 +63,7 @@ module _ (old new : Inside) (token client : ℕ) (kept : IsLane old) (home : new
       → Moves old.yard new.yard token client to
       → new.grants ≡ old.grants → new.room ≡ old.room → IsLane new
   lane-on b n to at view yard grants room = record {
-    tokens =
-        made v.tokens (λ u. without token (get_or v.tokens u []) ++ last_on token client (output_wire v.start.network.table b (n % 2)) u)
-        new.yard.lists (yard.wires ∙ sym long)
-        (λ u. yard.lists u ∙ (λ i. without token (sym (same-on u) i) ++ last_on token client (at i) u))
-        ∙ ap (λ (w : View). w.tokens) (sym view);
+    tokens = moved-lists _ new.yard v token client b n to kept.tokens at yard ∙ ap (λ (w : View). w.tokens) (sym view);
     grants = ap (λ g. g.items) grants ∙ kept.grants ∙ ap (λ (w : View). w.grants) (sym view);
     small = subst FitsLanes (ap (λ (h : FloorValue). h.start) (sym home)) kept.small;
     few = omega (arith, kept.few, yard.tokens, ap (λ (w : View). w.quota) view);
@@ -51,11 +77,7 @@ module _ (old new : Inside) (token client : ℕ) (kept : IsLane old) (home : new
       → vec_capacity new.grants ≡ vec_capacity old.grants
       → new.room ≡ old.room → IsLane new
   lane-out i n name named view yard grants capacity room = record {
-    tokens =
-        made v.tokens (λ u. without token (get_or v.tokens u []) ++ []) new.yard.lists (yard.wires ∙ sym long)
-        (λ u. yard.lists u ∙ ap (λ (es : List (ℕ × ℕ)). without token es) (sym (same-on u))
-        ∙ sym (append-nil (without token (get_or v.tokens u []))))
-        ∙ ap (λ (w : View). w.tokens) (sym view);
+    tokens = freed-lists old.yard new.yard v token client i n kept.tokens yard ∙ ap (λ (w : View). w.tokens) (sym view);
     grants = grants ∙ (λ x. kept.grants x ++ record { client = client; exit = i; visit = n; name = named x } ∷ [])
         ∙ ap (λ (w : View). w.grants) (sym view);
     small = subst FitsLanes (ap (λ (h : FloorValue). h.start) (sym home)) kept.small;
@@ -79,31 +101,20 @@ module _ (old new : LaneValue) (token client wire n : ℕ) (answer : Moved) wher
       → new.home ≡ old.home
       → new.view ≡ after_step token client end n old.view → PutsOn start end n old.yard new.yard token client → new.room ≡ old.room
       → answer ≡ answer_at start end n → IsLetBy start old.view new.view client end n → StepsOn old new token client wire n answer
-  steps-on end at stood home view yard room answered let_by =
-      let by : IsLetBy start old.view new.view client (end_of start.network.table wire) n =
-      subst (λ (e : End). IsLetBy start old.view new.view client e n) (sym at) let_by in
-      let says : answer ≡ answer_at start (end_of start.network.table wire) n = answered ∙ ap (λ (e : End). answer_at start e n) (sym at) in
-      record {
-        stood = stood;
-        home = home;
-        view = view ∙ ap (λ (e : End). after_step token client e n old.view) (sym at);
-        yard = subst (λ (e : End). PutsOn start e n old.yard new.yard token client) (sym at) yard;
-        room = room;
-        answered = says;
-        step = subst (λ (a : Moved). IsAtomicStep start old.view new.view (λ l m. IsMoveOf start.network.table (base start) l m client a))
-            (sym says) by.step;
-        few = by.few;
-        sole = by.sole;
-      }
+  steps-on end at stood home view yard room answered let_by = record {
+    stood = stood;
+    home = home;
+    view = rw at view;
+    yard = rw at yard;
+    room = room;
+    answered = rw at answered;
+    step = rw answered let_by.step;
+    few = let_by.few;
+    sole = rw at let_by.sole;
+  }
 
 -- a lane whose list of grants got way for more keeps what it kept
 pub lane-with-way : (l : Inside) (grants : Vec Grant Global) → IsLane l → grants.items ≡ l.grants.items
     → length grants.items + tokens_in l.yard.lists + l.room ≤ vec_capacity grants
     → IsLane (record { post = l.post; yard = l.yard; grants = grants; room = l.room })
-lane-with-way l grants kept items room = record {
-  tokens = kept.tokens;
-  grants = items ∙ kept.grants;
-  small = kept.small;
-  few = kept.few;
-  room = room;
-}
+lane-with-way l grants kept items room = search

@@ -1,12 +1,12 @@
 -- A client that walks through by itself.
-use Rattle.cn_floor.proofs.Common.{◌≡◌, ℕ, ◌+◌, ◌-◌, ◌%◌, ◌^◌, ◌<◌, ◌≤◌, ◌++◌, ◌∷◌, inl, inr, All, List, [], get_or, length, replicate, refl, sym, subst, ap, ◌∙◌, arith, mul-le-mul_left, get_or-append_seam, Balancer, Exit, Grant, IsAlone, IsAtomicStep, IsStart, Ledger, Start, StoodInState, View, after_enter, after_step, base, cases_lt, last_on, length-map-range_with_len, length_push, name_of, on, output_wire, without, OnlyPassed, PassesOn, IsGranted, WalksThrough, FitsLanes}
+use Rattle.cn_floor.proofs.Common.{◌≡◌, ℕ, ◌+◌, ◌-◌, ◌^◌, ◌<◌, ◌≤◌, ◌++◌, ◌∷◌, inl, inr, All, List, [], get_or, length, replicate, refl, sym, subst, ap, ◌∙◌, arith, mul-le-mul_left, get_or-append_seam, Exit, Grant, IsAlone, IsAtomicStep, IsStart, Ledger, Start, StoodInState, View, after_enter, after_step, base, cases_lt, last_on, length-map-range_with_len, length_push, name_of, on, without, OnlyPassed, PassesOn, IsGranted, WalksThrough, FitsLanes}
 use Rattle.cn_floor.proofs.Lists.{made_at, made-beyond}
 use Rattle.cn_floor.proofs.AtClose.Rises.{all-empty}
 use Rattle.cn_floor.proofs.InStates.Bounds.{few-came}
 use Rattle.cn_floor.proofs.InStates.Fresh.{load-bound-few}
 use Rattle.cn_floor.proofs.InStates.Sweeps.{lists-after-on}
-use Rattle.cn_floor.proofs.InLane.Alone.{nobody-else, off-own}
-use Rattle.cn_floor.proofs.InLane.Counted.{walked-steps}
+use Rattle.cn_floor.proofs.InLane.Alone.{nobody-else, off-own, passed-more, passed-on}
+use Rattle.cn_floor.proofs.InLane.Depths.{walked-steps}
 use Rattle.cn_floor.proofs.InLane.Yards.{nobody-there}
 
 -- if nobody stands on any wire, who comes in stands alone
@@ -52,66 +52,9 @@ names-low start v began (s, in_state) k d less =
 passed-only : (start : Start) (token client : ℕ) (numbers : List ℕ) (wire : ℕ) (v : View) (to : ℕ) (w : View)
     → PassesOn start token client numbers wire v to w → OnlyPassed v w
 unfolding PassesOn
-passed-only start token client [] wire v to w (_, same) =
-    record {
-      start = ap (λ (x : View). x.start) same;
-      quota = ap (λ (x : View). x.quota) same;
-      entries = ap (λ (x : View). x.entries) same;
-      came = ap (λ (x : View). x.came) same;
-      wires = ap (λ (x : View). length x.tokens) same;
-      grants = ap (λ (x : View). x.grants) same;
-      seen = ap (λ (x : View). x.seen) same;
-      loads = ap (λ (x : View). x.loads) same;
-    }
+passed-only start token client [] wire v to w (_, same) = rw same search
 passed-only start token client (n ∷ rest) wire v to w (b, ends, by, on) =
-    let next : View = after_step token client (Balancer b) n v in
-    let only : OnlyPassed next w = passed-only start token client rest (output_wire start.network.table b (n % 2)) next to w on in
-    record {
-      start = only.start;
-      quota = only.quota;
-      entries = only.entries;
-      came = only.came;
-      wires = only.wires ∙ length-map-range_with_len
-          (λ u. without token (get_or v.tokens u []) ++ last_on token client (output_wire v.start.network.table b (n % 2)) u) 0
-          (length v.tokens);
-      grants = only.grants;
-      seen = only.seen;
-      loads = only.loads;
-    }
-
--- what a client that walked through made of a view
-pub record Grew (v w : View) (client entry exit visit : ℕ) : Type 0 where
-  pub start : w.start ≡ v.start
-  pub quota : w.quota ≡ v.quota - 1
-  pub entries : w.entries ≡ v.entries ++ entry ∷ []
-  pub came : w.came ≡ v.came ++ record { id = client; entry = entry } ∷ []
-  pub grants : w.grants ≡ v.grants ++ record
-      { client = client; exit = exit; visit = visit; name = name_of v.start.network.table.width exit visit - base v.start } ∷ []
-  pub seen : w.seen ≡ v.seen
-  pub loads : w.loads ≡ v.loads
-
-pub grew : (start : Start) (client entry exit visit : ℕ) (v w : View) → WalksThrough start client entry exit visit v w
-    → Grew v w client entry exit visit
-grew start client entry exit visit v w is =
-    let came = is.came in
-    let only : OnlyPassed is.inside is.before = passed-only start is.token client is.numbers entry is.inside is.wire is.before is.passes in
-    let begun : is.before.start ≡ v.start = only.start ∙ ap (λ (x : View). x.start) came in
-    let had : is.before.grants ≡ v.grants = only.grants ∙ ap (λ (x : View). x.grants) came in
-    record {
-      start = ap (λ (x : View). x.start) is.after ∙ begun;
-      quota = ap (λ (x : View). x.quota) is.after ∙ only.quota ∙ ap (λ (x : View). x.quota) came;
-      entries = ap (λ (x : View). x.entries) is.after ∙ only.entries ∙ ap (λ (x : View). x.entries) came;
-      came = ap (λ (x : View). x.came) is.after ∙ only.came ∙ ap (λ (x : View). x.came) came;
-      grants = ap (λ (x : View). x.grants) is.after
-          ∙ (λ i. had i ++ record {
-            client = client;
-            exit = exit;
-            visit = visit;
-            name = name_of (begun i).network.table.width exit visit - base (begun i);
-          } ∷ []);
-      seen = ap (λ (x : View). x.seen) is.after ∙ only.seen ∙ ap (λ (x : View). x.seen) came;
-      loads = ap (λ (x : View). x.loads) is.after ∙ only.loads ∙ ap (λ (x : View). x.loads) came;
-    }
+    passed-more _ _ _ (passed-on token client b n v) (passed-only start token client rest _ _ to w on)
 
 -- the name of a visit is a number of 64 bits where no more can come than lanes let in
 pub name-small : (start : Start) (i n : ℕ) → IsStart start → FitsLanes start → i < start.network.table.width → n ≤ base start + start.quota
@@ -130,14 +73,15 @@ module _ (start : Start) (client entry exit visit : ℕ) (v w : View) (began : I
   abbrev grant : Grant
   grant = record { client = client; exit = exit; visit = visit; name = name }
 
+  only : OnlyPassed is.inside is.before
+  only = passed-only start is.token client is.numbers entry is.inside is.wire is.before is.passes
+
   more : w.grants ≡ v.grants ++ grant ∷ []
-  more = (grew start client entry exit visit v w is).grants
-      ∙ (λ i. v.grants ++ record {
-        client = client;
-        exit = exit;
-        visit = visit;
-        name = name_of (of i).network.table.width exit visit - base (of i);
-      } ∷ [])
+  more =
+      let begun : is.before.start ≡ start = only.start ∙ ap (λ (x : View). x.start) is.came ∙ of in
+      let had : is.before.grants ≡ v.grants = only.grants ∙ ap (λ (x : View). x.grants) is.came in
+      let named = λ (s : Start). record grant { name = name_of s.network.table.width exit visit - base s } in
+      ap (λ (x : View). x.grants) is.after ∙ (λ i. had i ++ named (begun i) ∷ [])
 
   stood : StoodInState start w
   stood = state-after _ _ _ _ is.leaves.step
@@ -152,24 +96,15 @@ module _ (start : Start) (client entry exit visit : ℕ) (v w : View) (began : I
   pub name-fits : name_of start.network.table.width exit visit < 2 ^ 64
   name-fits = omega (arith, name-low, began.quota, began.few)
 
-  pub granted : IsGranted start client entry
-      (record { client = client; exit = exit; visit = visit; name = name_of start.network.table.width exit visit - base start }) v w
+  pub granted : IsGranted start client entry grant v w
   granted =
-      let all = grew start client entry exit visit v w is in
-      record {
-        walked = is;
-        who = refl;
-        begun = all.start;
-        quota = omega (arith, all.quota, some-quota);
-        entries = all.entries;
-        came = all.came;
-        grants = more;
-        seen = all.seen;
-        loads = all.loads;
-        steps = walked-steps start client entry exit visit v w began.network is;
-        low = name-low;
-        in_state = stood;
-      }
+      let passed = only in
+      let grew = more in
+      let low = name-low in
+      let in_state = stood in
+      let steps = walked-steps start client entry exit visit v w began.network is in
+      let quota = ap (λ (x : View). x.quota) is.after ∙ only.quota ∙ ap (λ (x : View). x.quota) is.came in
+      search arith
 
 -- a later visit has a greater name
 pub name-rises : (width i m n : ℕ) → m ≤ n → name_of width i m ≤ name_of width i n

@@ -51,9 +51,12 @@ leaving width less i first wire old had once = record {
   wires = refl;
 }
 
-module _ (width less i first wire : ℕ) (old y : Yard) (had has : List Grant) (visit token : ℕ)
+module _ {width less i first wire : ℕ} {old y : Yard} {had has : List Grant} {visit token : ℕ}
     (is : IsLeaving width less i first wire old y had has visit)
     (inside : wire < length old.lists) (next : IsFirst wire y token) where
+  abbrev grant : Grant
+  grant = record { client = next.client; exit = i; visit = visit; name = name_of width i visit - less }
+
   within : wire < length y.lists
   within = omega (arith, inside, is.wires)
 
@@ -79,7 +82,7 @@ module _ (width less i first wire : ℕ) (old y : Yard) (had has : List Grant) (
 
   -- once it has left
   pub leaves-on : (z : Yard) (now : List Grant) → Releases y z token
-      → now ≡ has ++ record { client = next.client; exit = i; visit = visit; name = name_of width i visit - less } ∷ []
+      → now ≡ has ++ grant ∷ []
       → IsLeaving width less i first wire old z had now (visit + 1)
   leaves-on z now released grants = record {
     done = is.done ++ (token, next.client) ∷ [];
@@ -88,11 +91,8 @@ module _ (width less i first wire : ℕ) (old y : Yard) (had has : List Grant) (
         ∙ sym (append_assoc is.done ((token, next.client) ∷ []) next.after);
     left = left-now z released;
     freed = frees-next is.done old y z (token, next.client) is.freed released;
-    granted = grants
-        ∙ ap (λ (gs : List Grant). gs ++ record { client = next.client; exit = i; visit = visit; name = name_of width i visit - less } ∷ [])
-        is.granted
-        ∙ append_assoc had (grants_out width less i first is.done)
-        (record { client = next.client; exit = i; visit = visit; name = name_of width i visit - less } ∷ [])
+    granted = grants ∙ ap (λ (gs : List Grant). gs ++ grant ∷ []) is.granted
+        ∙ append_assoc had (grants_out width less i first is.done) (grant ∷ [])
         ∙ ap (λ (gs : List Grant). had ++ gs) (sym (grants-next width less i first visit is.done token next.client is.visit_is));
     visit_is = omega (arith, is.visit_is, length_push is.done (token, next.client));
     once = λ k. once-gone y.lists token next.client wire next.after is.once within next.begins z.lists released.wires k released.lists;
@@ -103,10 +103,10 @@ module _ (width less i first wire : ℕ) (old y : Yard) (had has : List Grant) (
   one-less z released = omega (arith, ap length (left-now z released), ap length next.begins)
 
 -- in the end all have left
-pub left-all : (width less i first wire : ℕ) (old now : Yard) (had has : List Grant) (visit : ℕ)
+pub left-all : {width less i first wire : ℕ} {old now : Yard} {had has : List Grant} {visit : ℕ}
     → IsLeaving width less i first wire old now had has visit → on now.lists wire ≡ []
     → Frees (on old.lists wire) old now × (has ≡ had ++ grants_out width less i first (on old.lists wire))
-left-all width less i first wire old now had has visit is none =
+left-all {width} {less} {i} {first} {wire} {old} {now} {had} is none =
     let whole : on old.lists wire ≡ is.done =
     is.whole ∙ ap (λ (es : List (ℕ × ℕ)). is.done ++ es) (sym is.left ∙ none) ∙ append-nil is.done in (
       subst (λ (es : List (ℕ × ℕ)). Frees es old now) (sym whole) is.freed,

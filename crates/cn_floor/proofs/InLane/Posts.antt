@@ -1,5 +1,5 @@
 -- What a post keeps, also after a step.
-use Rattle.cn_floor.proofs.Common.{◌≡◌, ℕ, zero, suc, ◌+◌, ◌≤◌, ◌++◌, List, [], length, refl, sym, ap, ◌∙◌, arith, slice_index, Start, View, after_enter, last_on, length-map-range_with_len, on, after_enters}
+use Rattle.cn_floor.proofs.Common.{◌≡◌, ℕ, zero, suc, ◌+◌, ◌≤◌, ◌++◌, List, [], length, sym, ap, ◌∙◌, arith, slice_index, Start, View, after_enter, last_on, length-map-range_with_len, on, after_enters}
 use Rattle.cn_floor.specs.declared.floor.post.Post.TheInside.{Inside}
 use Rattle.cn_floor.specs.InsidePost.{IsPost}
 
@@ -27,12 +27,8 @@ pub record HasKept (v w : View) (n : ℕ) : Type 0 where
 
 pub kept-by-all : (clients : List ℕ) (entry place n : ℕ) (v : View) → n ≤ v.quota → HasKept v (after_enters clients entry place n v) n
 unfolding after_enters
-kept-by-all clients entry place zero v enough = record { start = refl; loads = refl; wires = refl; quota = omega arith }
+kept-by-all clients entry place zero v enough = search arith
 kept-by-all clients entry place (suc n) v enough =
     let later = kept-by-all clients entry (suc place) n (after_enter place (slice_index clients place) entry v) (omega (arith, enough)) in
-    record {
-      start = later.start;
-      loads = later.loads;
-      wires = later.wires ∙ entered-wires place (slice_index clients place) entry v;
-      quota = omega (arith, enough, later.quota);
-    }
+    let wires = entered-wires place (slice_index clients place) entry v in
+    search arith

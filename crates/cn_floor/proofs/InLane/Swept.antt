@@ -1,7 +1,7 @@
 -- What a lane holds is what its view says, also after a sweep.
-use Rattle.cn_floor.proofs.Common.{◌≡◌, ◌≢◌, ℕ, zero, suc, ◌+◌, ◌-◌, ◌*◌, ◌%◌, ◌<◌, ◌≤◌, List, [], ◌∷◌, ◌++◌, length, get_or, refl, sym, ap, ◌∙◌, subst, arith, append-nil, length-append, inl, inr, vec_capacity, AreLetBy, Balancer, End, Exit, FloorValue, Grant, LaneValue, Lists, Start, View, Yard, after_step, after_sweep, append_assoc, base, cases_lt, end_of, get_or_past, last_on, length-map-range_with_len, name_of, on, output_wire, times_in, tokens_in, without, Deals, Frees, IsCleared, IsDealt, out_of, Moves, Releases, once-gone, others-on, rest-on, Inside, IsLane, FitsLanes, PutsAll, SweepsOn, after_steps, grants_out, sweep_at}
+use Rattle.cn_floor.proofs.Common.{◌≡◌, ◌≢◌, ℕ, ◌+◌, ◌-◌, ◌*◌, ◌%◌, ◌<◌, ◌≤◌, List, [], ◌∷◌, ◌++◌, length, refl, sym, ap, ◌∙◌, subst, arith, append-nil, length-append, vec_capacity, AreLetBy, Balancer, End, Exit, FloorValue, Grant, LaneValue, Start, View, Yard, after_step, after_sweep, append_assoc, base, end_of, length-map-range_with_len, name_of, on, output_wire, times_in, tokens_in, Deals, Frees, IsCleared, IsDealt, out_of, once-gone, others-on, rest-on, Inside, IsLane, FitsLanes, PutsAll, SweepsOn, after_steps, grants_out, sweep_at, nat_tests}
 use Rattle.cn_floor.specs.declared.view.Sweep.{Sweep}
-use Rattle.cn_floor.proofs.Lists.{made}
+use Rattle.cn_floor.proofs.InLane.Lanes.{freed-lists, moved-lists}
 use Rattle.cn_floor.proofs.InLane.Outs.{grants-many}
 
 -- ---- what tokens that go by leave as it was
@@ -16,42 +16,16 @@ pub record IsKin (v w : View) : Type 0 where
   pub wires : length w.tokens ≡ length v.tokens
 
 pub kin : (end : End) (n token client : ℕ) (v : View) → IsKin v (after_step token client end n v)
-kin (Balancer b) n token client v = record {
-  start = refl;
-  quota = refl;
-  entries = refl;
-  came = refl;
-  seen = refl;
-  loads = refl;
-  wires = length-map-range_with_len
-      (λ u. without token (on v.tokens u) ++ last_on token client (output_wire v.start.network.table b (n % 2)) u) 0 (length v.tokens);
-}
-kin (Exit i) n token client v = record {
-  start = refl;
-  quota = refl;
-  entries = refl;
-  came = refl;
-  seen = refl;
-  loads = refl;
-  wires = length-map-range_with_len (λ u. without token (on v.tokens u) ++ []) 0 (length v.tokens);
-}
+kin (Balancer b) n token client v = search length-map-range_with_len
+kin (Exit i) n token client v = search length-map-range_with_len
 
 pub kin-by : (end : End) (n : ℕ) (tokens : List (ℕ × ℕ)) (v : View) → IsKin v (after_steps end n tokens v)
 unfolding after_steps
-kin-by end n [] v =
-    record { start = refl; quota = refl; entries = refl; came = refl; seen = refl; loads = refl; wires = refl }
+kin-by end n [] v = search
 kin-by end n (e ∷ rest) v =
     let one = kin end n e.0 e.1 v in
     let more = kin-by end (n + 1) rest (after_step e.0 e.1 end n v) in
-    record {
-      start = more.start ∙ one.start;
-      quota = more.quota ∙ one.quota;
-      entries = more.entries ∙ one.entries;
-      came = more.came ∙ one.came;
-      seen = more.seen ∙ one.seen;
-      loads = more.loads ∙ one.loads;
-      wires = more.wires ∙ one.wires;
-    }
+    search
 
 -- ---- grants
 
@@ -71,22 +45,6 @@ grants-left i n (e ∷ rest) v =
 
 -- ---- tokens
 
--- one goes to a wire, or out
-moved-lists : (y z : Yard) (v : View) (token client b n to : ℕ) → y.lists ≡ v.tokens → to ≡ output_wire v.start.network.table b (n % 2)
-    → Moves y z token client to
-    → z.lists ≡ (after_step token client (Balancer b) n v).tokens
-moved-lists y z v token client b n to same at moves =
-    made v.tokens (λ u. without token (get_or v.tokens u []) ++ last_on token client (output_wire v.start.network.table b (n % 2)) u)
-    z.lists (moves.wires ∙ ap length same)
-    (λ u. moves.lists u ∙ (λ i. without token (get_or (same i) u []) ++ last_on token client (at i) u))
-
-freed-lists : (y z : Yard) (v : View) (token client i n : ℕ) → y.lists ≡ v.tokens → Releases y z token
-    → z.lists ≡ (after_step token client (Exit i) n v).tokens
-freed-lists y z v token client i n same released =
-    made v.tokens (λ u. without token (get_or v.tokens u []) ++ []) z.lists (released.wires ∙ ap length same)
-    (λ u. released.lists u ∙ ap (λ (ls : List (List (ℕ × ℕ))). without token (get_or ls u [])) same
-    ∙ sym (append-nil (without token (get_or v.tokens u []))))
-
 pub dealt-tokens : (outs : ℕ → ℕ) (b n p : ℕ) (tokens : List (ℕ × ℕ)) (y z : Yard) (v : View) → y.lists ≡ v.tokens
     → ((q : ℕ) → outs (q % 2) ≡ output_wire v.start.network.table b (q % 2)) → p % 2 ≡ n % 2 → Deals outs p tokens y z
     → z.lists ≡ (after_steps (Balancer b) n tokens v).tokens
@@ -95,10 +53,7 @@ dealt-tokens outs b n p [] y z v same at turn deals = ap (λ (x : Yard). x.lists
 dealt-tokens outs b n p (e ∷ rest) y z v same at turn (between, moves, later) =
     let to : outs (p % 2) ≡ output_wire v.start.network.table b (n % 2) = at p ∙ ap (output_wire v.start.network.table b) turn in
     dealt-tokens outs b (n + 1) (p + 1) rest between z (after_step e.0 e.1 (Balancer b) n v)
-    (moved-lists y between v e.0 e.1 b n (outs (p % 2)) same to moves) at (next p n turn) later
-  where
-    next : (p n : ℕ) → p % 2 ≡ n % 2 → (p + 1) % 2 ≡ (n + 1) % 2
-    next p n e = omega (arith, e)
+    (moved-lists y between v e.0 e.1 b n (outs (p % 2)) same to moves) at (omega (arith, turn)) later
 
 pub freed-tokens : (i n : ℕ) (tokens : List (ℕ × ℕ)) (y z : Yard) (v : View) → y.lists ≡ v.tokens → Frees tokens y z
     → z.lists ≡ (after_steps (Exit i) n tokens v).tokens
@@ -115,18 +70,10 @@ pub record IsFreed (y z : Yard) (many : ℕ) : Type 0 where
 
 pub freed-all : (tokens : List (ℕ × ℕ)) (y z : Yard) → Frees tokens y z → IsFreed y z (length tokens)
 unfolding Frees
-freed-all [] y z same = record {
-  wires = ap (λ (x : Yard). length x.lists) same;
-  tokens = omega (arith, ap (λ (x : Yard). tokens_in x.lists) same);
-  spare = omega (arith, ap (λ (x : Yard). x.spare) same);
-}
+freed-all [] y z same = rw same (search arith)
 freed-all (e ∷ rest) y z (between, released, later) =
     let more = freed-all rest between z later in
-    record {
-      wires = more.wires ∙ released.wires;
-      tokens = omega (arith, more.tokens, released.tokens);
-      spare = omega (arith, more.spare, released.spare);
-    }
+    search arith
 
 -- all tokens of a wire are freed: it is empty, and the others are as they were
 freed-others : (wire : ℕ) (tokens : List (ℕ × ℕ)) (y z : Yard) → ((k : ℕ) → times_in y.lists k ≤ 1) → wire < length y.lists
@@ -149,21 +96,9 @@ cleared wire y z once inside frees =
     let (empty, others) = freed-others wire (on y.lists wire) y z once inside refl frees in
     record { wires = all.wires; empty = empty; others = others; spare = all.spare; tokens = all.tokens }
 
--- a wire with a token is one of the yard's
-pub some-inside : (y : Lists) (wire : ℕ) → 0 < length (on y wire) → wire < length y
-some-inside y wire some = elim (cases_lt wire (length y)) [
-  | inl l ↦ l
-  | inr l ↦ absurd (omega (arith, some, ap (λ (es : List (ℕ × ℕ)). length es) (get_or_past y wire [] l)))
-]
-
 -- the two outputs of a balancer, as a lane deals to them
 pub outs-are : (entries b out q : ℕ) → out ≡ entries + 2 * b → out_of out (out + 1) (q % 2) ≡ entries + 2 * b + q % 2
-outs-are entries b out q is = by (q % 2) (omega arith)
-  where
-    by : (p : ℕ) → p < 2 → out_of out (out + 1) p ≡ entries + 2 * b + p
-    by zero low = omega (arith, is)
-    by (suc zero) low = omega (arith, is)
-    by (suc (suc p)) low = absurd (omega arith)
+outs-are entries b out q is = grind (arith, nat_tests)
 
 -- ---- the lane
 
@@ -226,9 +161,9 @@ module _ (old new : LaneValue) (wire n : ℕ) (answer : Sweep) where
       → AreLetBy start old.view new.view wire end n → SweepsOn old new wire n answer
   sweeps-on end at home view yard room answered by = record {
     home = home;
-    view = view ∙ ap (λ (e : End). after_sweep wire e n old.view) (sym at);
-    yard = subst (λ (e : End). PutsAll start wire e n old.yard new.yard) (sym at) yard;
+    view = rw at view;
+    yard = rw at yard;
     room = room;
-    answered = answered ∙ ap (λ (e : End). sweep_at e n (length (on old.yard.lists wire))) (sym at);
-    by = subst (λ (e : End). AreLetBy start old.view new.view wire e n) (sym at) by;
+    answered = rw at answered;
+    by = rw at by;
   }

@@ -6,12 +6,16 @@ use Rattle.std.specs.Map.{lookup}
 pub nobody-there : (y : Lists) → ((wire : ℕ) → length (on y wire) ≡ 0) → tokens_in y ≡ 0
 nobody-there y none = sum-below-zero (length y) (λ u. length (on y u)) none
 
+-- a wire with a token is one of the yard's
+pub some-inside : (y : Lists) (wire : ℕ) → 0 < length (on y wire) → wire < length y
+some-inside y wire some = elim (cases_lt wire (length y)) [
+  | inl l ↦ l
+  | inr l ↦ absurd (omega (arith, some, ap (λ (es : List (ℕ × ℕ)). length es) (get_or_past y wire [] l)))
+]
+
 -- the lowest wire is a wire of the network
 pub lowest-inside : (y : Lists) (wire : ℕ) → IsLowest y wire → wire < length y
-lowest-inside y wire is = elim (cases_lt wire (length y)) [
-  | inl l ↦ l
-  | inr l ↦ absurd (omega (arith, is.some, ap (λ (es : List (ℕ × ℕ)). length es) (get_or_past y wire [] l)))
-]
+lowest-inside y wire is = some-inside y wire is.some
 
 found : (es : List (ℕ × ℕ)) (token : ℕ) → first_of es ≡ Some token → IsSome (lookup (eqb token) es)
 found [] token h = cc

@@ -92,6 +92,7 @@ impl<'a> Floor<'a> {
         post.quota -= quota;
         Ok(Post { seat, quota })
     }
+
     /// Takes the second post, which has nobody inside, into the first, which then looks once.
     pub(super) fn join_post(&self, post: &mut Post, other: Post)
         requires own { (post.old.home ≡ self.now) × (other.home ≡ self.now) }

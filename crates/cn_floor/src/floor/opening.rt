@@ -69,18 +69,6 @@ fn quota_fits(quota: u64) -> Result<(), OpenFault>
     Ok(())
 }
 
-/// The yard that is there, with its free records, or else a new one.
-fn spare_yard(alloc: Global, network: &Counting, spare: Option<Yard>) -> Yard
-    requires { IfSome spare (λ yard. IsIdle network.now yard.lists) }
-    ensures idle { IsIdle network.now result.lists }
-    ensures spare { result.spare ≡ spare_in spare }
-{
-    match spare {
-        Some(yard) => yard,
-        None => yard_for(alloc, network),
-    }
-}
-
 impl<'a> Floor<'a> {
     /// A floor over the network, with one lane that has the whole quota: as many clients may come in. It is
     /// [`Floor::open_words`] of [`Words::zero`].
@@ -148,7 +136,11 @@ impl<'a> Floor<'a> {
         ensures back { IfErr result (λ back. back.words ≡ leftovers.entry.words) }
     {
         let (words, yard) = leftovers.into_parts();
-        let yard = spare_yard(alloc, words.network(), yard);
+        // The yard that is there, with its free records, or else a new one.
+        let yard = match yard {
+            Some(yard) => yard,
+            None => yard_for(alloc, words.network()),
+        };
         match Floor::begin(alloc, words, quota, yard) {
             Ok(opened) => Ok(opened),
             Err(words) => Err(Leftovers { words, yard: None }),

@@ -40,21 +40,10 @@ pub(super) fn copy_words(table: &Closed<(), Global>, stride: usize, list: &mut V
     requires places { length list.old.items ≡ length (words_in stride (slots_items table.now.words)) }
     ensures { list.new.items ≡ words_in stride (slots_items table.now.words) }
 {
-    copy_by_stride(table, stride, list);
-}
-
-/// Copies the words of a closed table over as many.
-#[inline]
-fn copy_by_stride(table: &Closed<(), Global>, stride: usize, words: &mut [u64])
-    requires spaced { IsSpaced stride (slots_items table.now.words) }
-    requires full { IsFull table.now.words }
-    requires places { length words.old ≡ length (words_in stride (slots_items table.now.words)) }
-    ensures { words.new ≡ words_in stride (slots_items table.now.words) }
-{
     if stride == 1 {
-        copy_adjacent(table, words);
+        copy_adjacent(table, list);
     } else {
-        copy_apart(table, stride, words);
+        copy_apart(table, stride, list);
     }
 }
 

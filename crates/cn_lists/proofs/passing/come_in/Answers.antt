@@ -1,5 +1,5 @@
-use Rattle.cn_lists.proofs.Common.{ℕ, ◌<◌, List, length, arith, sym, ap, subst, FloorValue, View, ComeTogether, CameIn}
-use Rattle.cn_lists.proofs.CameIn.{all-came-in}
+use Rattle.cn_lists.proofs.Common.{ℕ, ◌<◌, List, length, arith, sym, ap, subst, FloorValue, View, ComeTogether, CameIn, ◌+◌}
+use Rattle.cn_lists.proofs.CameIn.{came-on, none-came}
 use Rattle.cn_lists.proofs.passing.come_in.Goals as goal
 
 pub returns-clause-came : goal.returns-clause-came
@@ -17,4 +17,5 @@ returns-clause-came g c =
       c.requires.entry,
     ) in
     subst (λ (w : View). CameIn v w clients c.args.entry (length clients)) (sym step.0)
-    (all-came-in v clients c.args.entry c.requires.out inside c.requires.quota)
+    (came-on v v clients c.args.entry (v.steps + 1) 0 (length clients) (length clients)
+    (none-came v clients c.args.entry (v.steps + 1) c.requires.out) inside (omega arith) c.requires.quota (omega arith))

@@ -1,24 +1,9 @@
 use Rattle.cn_lists.proofs.Common.{◌≡◌, ℕ, ◌+◌, ◌==◌, List, ◌++◌, count_by, length, arith, sym, ap, ◌∙◌, subst, length-append, take-length, FloorValue, Grant, Network, Start, StoodInState, View, on, tokens_in, nobody-in, nobody-there, by_one_entry, gone_too}
 use Rattle.cn_lists.proofs.Groups.{placed-many}
 use Rattle.cn_lists.proofs.CameIn.{all-clients, came-once, nobody-stands}
-use Rattle.cn_lists.proofs.Counted.{together-deep, together-steps}
+use Rattle.cn_lists.proofs.Counted.{together-steps}
 use Rattle.cn_lists.proofs.InTurn.{walk-together}
 use Rattle.cn_lists.proofs.passing.walk_all.Goals as goal
-
-pub pass_all-requires-clause-once : goal.pass_all-requires-clause-once
-pass_all-requires-clause-once g c =
-    let came = c.come_in-count.ensures.came in
-    came-once _ _ _ _ _ came
-    (omega (
-      arith,
-      came.wires,
-      c.post_laws.ensures.wires,
-      ap (λ (h : FloorValue). length h.start.network.table.ends) c.requires.own,
-      c.network-network.ensures.network.formed.wires,
-      ap (λ (n : Network). length n.table.ends) c.network-network.ensures.value,
-      ap (λ (n : Network). n.table.entries) c.network-network.ensures.value,
-      c.requires.entry,
-    ))
 
 pub pass_all-requires-clause-wire : goal.pass_all-requires-clause-wire
 pass_all-requires-clause-wire g c =
@@ -29,6 +14,13 @@ pass_all-requires-clause-wire g c =
       ap (λ (n : Network). n.table.entries) c.network-network.ensures.value,
       c.requires.entry,
     )
+
+pub pass_all-requires-clause-once : goal.pass_all-requires-clause-once
+pass_all-requires-clause-once g c =
+    let came = c.come_in-count.ensures.came in
+    let wires = ap (λ (h : FloorValue). length h.start.network.table.ends) c.requires.own in
+    came-once _ _ _ _ _ came
+    (omega (arith, came.wires, c.post_laws.ensures.wires, wires, pass_all-requires-clause-wire g c))
 
 pub pass_all-requires-clause-many : goal.pass_all-requires-clause-many
 pass_all-requires-clause-many g c =
@@ -73,14 +65,13 @@ returns-clause-walked g c =
     let stood : length (on w.tokens c.args.entry) ≡ k = ap length came.there ∙ placed-many clients 0 1 k in
     let (more, grew, theirs) = left.grants in
     let nobody : tokens_in v.tokens ≡ 0 = nobody-there v.tokens (λ u. ap length (c.requires.out u)) in
-    let out : tokens_in x.tokens ≡ 0 =
-    ap tokens_in (nobody-stands v w x clients c.args.entry k came left) ∙ nobody-in (length v.tokens) in
-    let many : length x.grants ≡ length v.grants + k =
-    ap length grew ∙ length-append w.grants more ∙ (λ i. length (came.grants i) + (theirs.as_many ∙ stood) i) in
+    let all = returns-clause-left g c in
+    let out : tokens_in x.tokens ≡ 0 = ap tokens_in all.gone ∙ nobody-in (length v.tokens) in
     let walk = walk-together start clients c.args.entry v w x c.come_in-count.ensures.step c.pass_all.ensures.swept in
+    let steps = together-steps start clients c.args.entry k v x net walk nobody out all.grants in
     record {
       together = walk;
-      quota = omega (arith, came.quota, left.quota);
+      quota = all.quota;
       entries = left.entries ∙ came.entries;
       came = left.came ∙ came.came ∙ (λ i. v.came ++ by_one_entry c.args.entry (take-length clients i));
       seen = left.seen ∙ came.seen;
@@ -90,8 +81,8 @@ returns-clause-walked g c =
         theirs.as_many ∙ stood,
         λ client. theirs.as_often client ∙ ap (count_by (λ e. e.1 == client)) came.there ∙ all-clients clients client,
       );
-      enough_steps = λ some. together-deep start clients c.args.entry k v x net walk nobody out many some;
-      few_steps = together-steps start clients c.args.entry k v x net walk nobody out many;
+      enough_steps = steps.1;
+      few_steps = steps.0;
       in_state = λ some. subst (λ (s : Start). StoodInState s x) (came.start ∙ c.post_laws.ensures.start
           ∙ ap (λ (h : FloorValue). h.start) c.requires.own)
           (left.in_state (omega (arith, some, stood)));

@@ -8,12 +8,7 @@ lay-requires c = record { few = (omega (arith, c.requires.few.0), omega (arith, 
 pub returns-in-Ok-clause-lane : goal.returns-in-Ok-clause-lane
 returns-in-Ok-clause-lane c =
     let is = c.in-Ok.ensures.post in
-    (λ i. record {
-      home = (is i).home;
-      view = (is i).view;
-      yard = c.args.yard;
-      room = 0;
-    })
+    (λ i. record { home = (is i).home; view = (is i).view; yard = c.args.yard; room = 0 })
 
 pub invariant_of-lane : goal.invariant_of-lane
 invariant_of-lane c =

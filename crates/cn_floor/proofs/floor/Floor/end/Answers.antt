@@ -1,6 +1,7 @@
 use Rattle.cn_floor.proofs.Common.{◌≡◌, ℕ, ◌+◌, ◌-◌, inl, inr, List, [], length, replicate, rules, sym, ap, ◌∙◌, subst, arith, FloorValue, IsClosed, LaneValue, Network, Start, View, WordsValue, base, cases_lt, clients_in, slots_items, tokens_in, words_in, words_before, IsMissing, IsClosedFloor, FitsLanes}
 use Rattle.cn_floor.proofs.AtClose.Closings.{inside-yard}
 use Rattle.cn_floor.proofs.AtClose.Rises.{all-empty}
+use Rattle.cn_floor.proofs.InLane.Lanes.{home-start}
 use Rattle.cn_floor.proofs.floor.Floor.end.Goals as goal
 
 pub invariant_of-closed : goal.invariant_of-closed
@@ -15,13 +16,10 @@ invariant_of-closed c =
     let view : v ≡ c.of-kept.result.value.view = ap (λ (l : LaneValue). l.view) (c.lane.view_is ∙ sym lane) in
     let about : start ≡ c.of-kept.result.value.home.start =
     ap (λ (h : FloorValue). h.start) (c.self.view_is ∙ sym c.requires.own ∙ ap (λ (l : LaneValue). l.home) (sym lane)) in
-    let small : FitsLanes start = subst FitsLanes
-    (ap (λ (l : LaneValue). l.home.start) c.lane.view_is ∙ ap (λ (h : FloorValue). h.start) (c.requires.own ∙ sym c.self.view_is))
-    c.lane.invariant.small in
+    let small = subst FitsLanes (home-start c.lane.view_is c.requires.own c.self.view_is) c.lane.invariant.small in
     let nobody : tokens_in c.lane.inside.yard.lists ≡ 0 = search rules in
     let out : tokens_in v.tokens ≡ 0 = inside-yard c.lane.inside.yard v c.lane.invariant.tokens ∙ nobody in
-    let clients : c.clients_of-clients.result ≡ clients_in start.network.table ws =
-    c.clients_of-clients.ensures ∙ ap (λ (n : Network). clients_in n.table ws) network in
+    let clients = c.clients_of-clients.ensures ∙ ap (λ (n : Network). clients_in n.table ws) network in
     let granted : c.len-granted.result ≡ length v.grants = search rules in
     let came : clients_in start.network.table ws ≡ base start + length v.grants =
     omega (arith, e.granted, c.self.invariant.base, c.if-entered-granted.false) in
@@ -66,8 +64,7 @@ returns-then-entered-granted-clause-refused c =
     let e = c.close-table.ensures.ending in
     let entered : ℕ = c.clients_of-clients.result - c.self.inside.base in
     let network : c.network.result.now ≡ start.network = c.network.ensures ∙ ap (λ (w : WordsValue). w.network) c.self.invariant.before in
-    let clients : c.clients_of-clients.result ≡ clients_in start.network.table ws =
-    c.clients_of-clients.ensures ∙ ap (λ (n : Network). clients_in n.table ws) network in
+    let clients = c.clients_of-clients.ensures ∙ ap (λ (n : Network). clients_in n.table ws) network in
     let granted : c.len-granted.result ≡ length v.grants = search rules in
     let nobody : tokens_in c.lane.inside.yard.lists ≡ 0 = search rules in
     let out : tokens_in v.tokens ≡ 0 = inside-yard c.lane.inside.yard v c.lane.invariant.tokens ∙ nobody in

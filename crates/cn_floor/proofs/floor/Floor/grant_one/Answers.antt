@@ -4,8 +4,7 @@ use Rattle.cn_floor.proofs.floor.Floor.grant_one.Goals as goal
 
 pub name_of-requires : goal.name_of-requires
 name_of-requires g c =
-    let width : c.width.result ≡ c.args.self.now.start.network.table.width =
-    c.width.ensures.value ∙ ap (λ (n : Network). n.table.width) c.requires.network in
+    let width = c.width.ensures.value ∙ ap (λ (n : Network). n.table.width) c.requires.network in
     omega (
       arith,
       name-fits _ _ _ _ _ _ _ c.start_laws.ensures
@@ -16,10 +15,8 @@ name_of-requires g c =
 
 pub returns-clause-granted : goal.returns-clause-granted
 returns-clause-granted g c =
-    let width : c.width.result ≡ c.args.self.now.start.network.table.width =
-    c.width.ensures.value ∙ ap (λ (n : Network). n.table.width) c.requires.network in
-    let came : c.self.inside.base ≡ base c.args.self.now.start =
-    c.self.invariant.base ∙ ap (λ (h : FloorValue). base h.start) c.self.view_is in
+    let width = c.width.ensures.value ∙ ap (λ (n : Network). n.table.width) c.requires.network in
+    let came = c.self.invariant.base ∙ ap (λ (h : FloorValue). base h.start) c.self.view_is in
     let named : c.name_of.result - c.self.inside.base
     ≡ name_of c.args.self.now.start.network.table.width c.walk_through-exit.result.0 c.walk_through-exit.result.1 - base
     c.args.self.now.start =

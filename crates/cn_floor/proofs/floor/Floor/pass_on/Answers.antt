@@ -65,9 +65,6 @@ module _ (g : given.Over) (c : goal.After-number_of-ends_at-in-loop-passed g) wh
   of : v.start ≡ start
   of = c.loop-passed.invariant.passed.start ∙ c.post_laws.ensures.start ∙ ap (λ (h : FloorValue). h.start) c.requires.own
 
-  network : start.network ≡ c.args.network.now
-  network = sym c.requires.network
-
   abbrev before-step : goal.After-step-arg-1 g
   before-step = c.before.before.before.before.before
 
@@ -83,7 +80,7 @@ module _ (g : given.Over) (c : goal.After-number_of-ends_at-in-loop-passed g) wh
     arith,
     c.output_of.ensures,
     c.entries.ensures.value,
-    ap (λ (x : Network). x.table.entries) network,
+    ap (λ (x : Network). x.table.entries) (sym c.requires.network),
     ap (λ (s : Start). s.network.table.entries) of,
   )
 
@@ -91,15 +88,11 @@ module _ (g : given.Over) (c : goal.After-number_of-ends_at-in-loop-passed g) wh
   went = c.step-number.ensures.went.0
 
   alone : IsAlone c.step-number.new.post.view.tokens c.args.token c.args.client (c.entries.result + 2 * b + c.output_of.result)
-  alone =
-      subst (λ (w : View). IsAlone w.tokens c.args.token c.args.client (c.entries.result + 2 * b + c.output_of.result)) (sym went)
-      (subst (λ (u : ℕ). IsAlone (after_step c.args.token c.args.client (Balancer b) n v).tokens c.args.token c.args.client u) (sym to)
-      (alone-on start formed v of wires c.args.token c.args.client c.loop-passed.at b n c.loop-passed.invariant.alone (ends g before-step)))
+  alone = subst (λ (z : View × ℕ). IsAlone z.0.tokens c.args.token c.args.client z.1) (λ i. (sym went i, sym to i))
+      (alone-on start formed v of wires _ _ _ b n c.loop-passed.invariant.alone (ends g before-step))
 
   passed : OnlyPassed v c.step-number.new.post.view
-  passed =
-      subst (λ (w : View). OnlyPassed v w) (sym went)
-      (passed-on start formed v of wires c.args.token c.args.client c.loop-passed.at b n c.loop-passed.invariant.alone (ends g before-step))
+  passed = subst (OnlyPassed v) (sym went) (passed-on c.args.token c.args.client b n v)
 
   let-by : IsLetBy start v (after_step c.args.token c.args.client (Balancer b) n v) c.args.client (Balancer b) n
   let-by =
@@ -124,7 +117,7 @@ pub loop-passed-init : goal.loop-passed-init
 unfolding PassesOn
 loop-passed-init g c = record {
   home = refl;
-  passed = record { start = refl; quota = refl; entries = refl; came = refl; wires = refl; grants = refl; seen = refl; loads = refl };
+  passed = search;
   alone = c.requires.alone;
   deep = entries-first c.args.self.now.start.network
       (subst IsNetwork c.requires.network c.depth-passed-end.ensures.network) c.args.entry

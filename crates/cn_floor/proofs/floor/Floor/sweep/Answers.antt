@@ -1,6 +1,8 @@
 use Rattle.cn_floor.proofs.Common.{◌≡◌, ℕ, ◌+◌, ◌*◌, ◌%◌, ◌<◌, ◌≤◌, length, refl, arith, sym, ap, ◌∙◌, subst, AreLetBy, Balancer, End, Exit, FloorValue, LaneValue, LeadsOn, Lists, Network, Stands, Start, View, after_sweep, base, end_of, lane_of, name_of, on, output_wire, sum-below-part, times_in, IsDealt, out_of, FitsLanes}
 use Rattle.cn_floor.specs.declared.view.Sweep.TheVariants.{On, Out}
-use Rattle.cn_floor.proofs.InLane.Swept.{cleared, lane-dealt, lane-left, outs-are, some-inside, sweeps-on}
+use Rattle.cn_floor.proofs.InLane.Swept.{cleared, lane-dealt, lane-left, outs-are, sweeps-on}
+use Rattle.cn_floor.proofs.InLane.Yards.{some-inside}
+use Rattle.cn_floor.proofs.InLane.Lanes.{home-network, home-start, view-network, view-start}
 use Rattle.cn_floor.proofs.InLane.Named.{name-small}
 use Rattle.cn_floor.proofs.floor.Floor.sweep.Goals as goal
 
@@ -34,15 +36,11 @@ leave_all-requires-clause-high c =
     let i : ℕ = c.in-Exit.exit in
     let network : c.network-network.result.now ≡ start.network =
     c.network-network.ensures.value ∙ ap (λ (h : FloorValue). h.start.network) (sym c.self.view_is) in
-    let width : c.width-width.result ≡ start.network.table.width =
-    c.width-width.ensures.value ∙ ap (λ (x : Network). x.table.width) network in
-    let small : FitsLanes start =
-    subst FitsLanes (ap (λ (l : LaneValue). l.home.start) c.lane.view_is ∙ ap (λ (h : FloorValue). h.start) c.requires.own
-    ∙ sym (ap (λ (h : FloorValue). h.start) c.self.view_is)) c.lane.invariant.small in
+    let width = c.width-width.ensures.value ∙ ap (λ (x : Network). x.table.width) network in
+    let small = subst FitsLanes (home-start c.lane.view_is c.requires.own c.self.view_is) c.lane.invariant.small in
     let stands : i < start.network.table.width =
     subst (λ (x : Network × End). Stands x.0.table x.1) (λ k. (network k, c.in-Exit.is k)) c.end-end.ensures.there in
-    let many : length (on c.lane.inside.yard.lists c.args.wire) ≡ length (on c.lane.inside.post.view.tokens c.args.wire) =
-    ap (λ (ls : Lists). length (on ls c.args.wire)) c.lane.invariant.tokens in
+    let many = ap (λ (ls : Lists). length (on ls c.args.wire)) c.lane.invariant.tokens in
     omega (
       arith,
       name-small start i (c.sweep-first.result + length (on c.lane.inside.post.view.tokens c.args.wire)) c.self.invariant.began small stands
@@ -72,14 +70,11 @@ pub invariant_of-lane : goal.invariant_of-lane
 invariant_of-lane c =
     let v : View = c.lane.inside.post.view in
     let n : ℕ = c.sweep-first.result in
-    let network : v.start.network ≡ c.network-network.result.now =
-    ap (λ (l : LaneValue). l.view.start.network) c.lane.view_is ∙ ap (λ (s : Start). s.network) c.lane_laws.ensures.start
-    ∙ ap (λ (h : FloorValue). h.start.network) c.requires.own
-    ∙ sym c.network-network.ensures.value in
+    let began = c.lane_laws.ensures.start in
+    let network = view-network c.lane.view_is c.requires.own began c.network-network.ensures.value in
     let b : ℕ = c.in-Balancer.balancer in
     let out : ℕ = c.entries.result + 2 * b in
-    let entries : c.entries.result ≡ v.start.network.table.entries =
-    c.entries.ensures.value ∙ sym (ap (λ (x : Network). x.table.entries) network) in
+    let entries = c.entries.ensures.value ∙ sym (ap (λ (x : Network). x.table.entries) network) in
     let went : c.sweep-first.new.post.view ≡ after_sweep c.args.wire (Balancer b) n v =
     c.sweep-first.ensures.went.0 ∙ ap (λ (e : End). after_sweep c.args.wire e n v) c.in-Balancer.is in
     lane-dealt c.lane.inside _ c.args.wire n c.lane.invariant c.sweep-first.ensures.home (out_of out (out + 1)) b c.output_of.result out
@@ -91,19 +86,13 @@ pub invariant_of-lane-in-Exit : goal.invariant_of-lane-in-Exit
 invariant_of-lane-in-Exit c =
     let v : View = c.lane.inside.post.view in
     let n : ℕ = c.sweep-first.result in
-    let begun : v.start ≡ c.self.inside.counters.start =
-    ap (λ (l : LaneValue). l.view.start) c.lane.view_is ∙ c.lane_laws.ensures.start ∙ ap (λ (h : FloorValue). h.start) c.requires.own
-    ∙ sym (ap (λ (h : FloorValue). h.start) c.self.view_is) in
-    let network : v.start.network ≡ c.network-network.result.now =
-    ap (λ (l : LaneValue). l.view.start.network) c.lane.view_is ∙ ap (λ (s : Start). s.network) c.lane_laws.ensures.start
-    ∙ ap (λ (h : FloorValue). h.start.network) c.requires.own
-    ∙ sym c.network-network.ensures.value in
+    let begun = view-start c.lane.view_is c.requires.own c.lane_laws.ensures.start c.self.view_is in
+    let began = c.lane_laws.ensures.start in
+    let network = view-network c.lane.view_is c.requires.own began c.network-network.ensures.value in
     let i : ℕ = c.in-Exit.exit in
-    let width : c.width-width.result ≡ v.start.network.table.width =
-    c.width-width.ensures.value ∙ sym (ap (λ (x : Network). x.table.width) network) in
+    let width = c.width-width.ensures.value ∙ sym (ap (λ (x : Network). x.table.width) network) in
     let base_is : c.self.inside.base ≡ base v.start = c.self.invariant.base ∙ sym (ap (λ (s : Start). base s) begun) in
-    let went : c.sweep-first.new.post.view ≡ after_sweep c.args.wire (Exit i) n v =
-    c.sweep-first.ensures.went.0 ∙ ap (λ (e : End). after_sweep c.args.wire e n v) c.in-Exit.is in
+    let went = c.sweep-first.ensures.went.0 ∙ ap (λ (e : End). after_sweep c.args.wire e n v) c.in-Exit.is in
     lane-left c.lane.inside _ c.args.wire n c.lane.invariant c.sweep-first.ensures.home i c.width-width.result c.self.inside.base width
     base_is went
     c.leave_all.ensures.freed c.leave_all.ensures.granted c.leave_all.ensures.capacity refl
@@ -112,16 +101,11 @@ pub returns-in-Balancer : goal.returns-in-Balancer
 returns-in-Balancer c =
     let v : View = c.lane.inside.post.view in
     let n : ℕ = c.sweep-first.result in
-    let begun : c.lane.inside.post.home.start ≡ c.self.inside.counters.start =
-    ap (λ (l : LaneValue). l.home.start) c.lane.view_is ∙ ap (λ (h : FloorValue). h.start) c.requires.own
-    ∙ sym (ap (λ (h : FloorValue). h.start) c.self.view_is) in
-    let network : c.lane.inside.post.home.start.network ≡ c.network-network.result.now =
-    ap (λ (l : LaneValue). l.home.start.network) c.lane.view_is ∙ ap (λ (h : FloorValue). h.start.network) c.requires.own
-    ∙ sym c.network-network.ensures.value in
+    let begun = home-start c.lane.view_is c.requires.own c.self.view_is in
+    let network = home-network c.lane.view_is c.requires.own c.network-network.ensures.value in
     let b : ℕ = c.in-Balancer.balancer in
     let out : ℕ = c.entries.result + 2 * b in
-    let entries : c.entries.result ≡ c.lane.inside.post.home.start.network.table.entries =
-    c.entries.ensures.value ∙ sym (ap (λ (x : Network). x.table.entries) network) in
+    let entries = c.entries.ensures.value ∙ sym (ap (λ (x : Network). x.table.entries) network) in
     let went : c.sweep-first.new.post.view ≡ after_sweep c.args.wire (Balancer b) n v =
     c.sweep-first.ensures.went.0 ∙ ap (λ (e : End). after_sweep c.args.wire e n v) c.in-Balancer.is in
     let at : end_of c.lane.inside.post.home.start.network.table c.args.wire ≡ Balancer b =
@@ -147,21 +131,13 @@ pub returns-in-Exit : goal.returns-in-Exit
 returns-in-Exit c =
     let v : View = c.lane.inside.post.view in
     let n : ℕ = c.sweep-first.result in
-    let begun : c.lane.inside.post.home.start ≡ c.self.inside.counters.start =
-    ap (λ (l : LaneValue). l.home.start) c.lane.view_is ∙ ap (λ (h : FloorValue). h.start) c.requires.own
-    ∙ sym (ap (λ (h : FloorValue). h.start) c.self.view_is) in
-    let network : c.lane.inside.post.home.start.network ≡ c.network-network.result.now =
-    ap (λ (l : LaneValue). l.home.start.network) c.lane.view_is ∙ ap (λ (h : FloorValue). h.start.network) c.requires.own
-    ∙ sym c.network-network.ensures.value in
+    let begun = home-start c.lane.view_is c.requires.own c.self.view_is in
+    let network = home-network c.lane.view_is c.requires.own c.network-network.ensures.value in
     let i : ℕ = c.in-Exit.exit in
-    let width : c.width-width.result ≡ c.lane.inside.post.home.start.network.table.width =
-    c.width-width.ensures.value ∙ sym (ap (λ (x : Network). x.table.width) network) in
-    let base_is : c.self.inside.base ≡ base c.lane.inside.post.home.start =
-    c.self.invariant.base ∙ sym (ap (λ (s : Start). base s) begun) in
-    let went : c.sweep-first.new.post.view ≡ after_sweep c.args.wire (Exit i) n v =
-    c.sweep-first.ensures.went.0 ∙ ap (λ (e : End). after_sweep c.args.wire e n v) c.in-Exit.is in
-    let at : end_of c.lane.inside.post.home.start.network.table c.args.wire ≡ Exit i =
-    ap (λ (x : Network). end_of x.table c.args.wire) network ∙ c.end-end.ensures.at ∙ c.in-Exit.is in
+    let width = c.width-width.ensures.value ∙ sym (ap (λ (x : Network). x.table.width) network) in
+    let base_is = c.self.invariant.base ∙ sym (ap (λ (s : Start). base s) begun) in
+    let went = c.sweep-first.ensures.went.0 ∙ ap (λ (e : End). after_sweep c.args.wire e n v) c.in-Exit.is in
+    let at = ap (λ (x : Network). end_of x.table c.args.wire) network ∙ c.end-end.ensures.at ∙ c.in-Exit.is in
     let many : c.from-tokens.result ≡ length (on c.lane.inside.yard.lists c.args.wire) = c.from-tokens.ensures ∙ c.count.ensures in
     let lists = c.lane.inside.yard.lists in
     let inside : c.args.wire < length lists = some-inside lists c.args.wire (rw (← c.lane.view_is) at c.requires.some) in

@@ -1,70 +1,49 @@
-use Rattle.cn_floor.proofs.Common.{◌≡◌, ℕ, ◌+◌, ◌-◌, ◌≤◌, ◌++◌, ◌∷◌, [], length, length-append, sym, ap, ◌∙◌, arith, rules, name_of, on, IsFirst, first-is, none-first}
+use Rattle.cn_floor.proofs.Common.{◌≡◌, ℕ, ◌+◌, ◌-◌, ◌≤◌, ◌++◌, ◌∷◌, [], length, length-append, sym, ap, ◌∙◌, arith, rules, on, first-is, none-first, Grant}
 use Rattle.cn_floor.proofs.InLane.Outs.{client-is, has-many, leaves-on, leaving, left-all, one-less, some-left, stands}
 use Rattle.cn_floor.proofs.InLane.Named.{name-rises}
 use Rattle.cn_floor.proofs.floor.sweeping.leave_all.Goals as goal
 
 pub loop-token-init : goal.loop-token-init
 loop-token-init c = record {
-  so_far = leaving c.args.width c.args.base c.args.exit c.args.first c.args.wire c.args.yard.now c.args.grants.now.items
-      c.yard_laws.ensures.once;
+  so_far = leaving _ _ _ _ _ _ _ c.yard_laws.ensures.once;
   capacity = search rules;
 }
 
 pub release-client-requires : goal.release-client-requires
 release-client-requires c =
-    let next : IsFirst c.args.wire c.loop-token.yard c.in-Some.token =
-    first-is c.args.wire c.in-Some.token c.loop-token.yard (sym c.in-Some.is ∙ c.first.ensures) in
-    rw (stands c.args.width c.args.base c.args.exit c.args.first c.args.wire c.args.yard.now c.loop-token.yard c.args.grants.now.items
-    c.loop-token.grants.items c.loop-token.visit c.in-Some.token c.loop-token.invariant.so_far c.requires.wire next)
-    (search rules)
+    let next = first-is c.args.wire c.in-Some.token c.loop-token.yard (sym c.in-Some.is ∙ c.first.ensures) in
+    rw (stands c.loop-token.invariant.so_far c.requires.wire next) (search rules)
 
 pub push_reserved-requires : goal.push_reserved-requires
 push_reserved-requires c =
-    let next : IsFirst c.args.wire c.loop-token.yard c.in-Some.token =
-    first-is c.args.wire c.in-Some.token c.loop-token.yard (sym c.in-Some.is ∙ c.first.ensures) in
+    let next = first-is c.args.wire c.in-Some.token c.loop-token.yard (sym c.in-Some.is ∙ c.first.ensures) in
     omega (
       arith,
       c.requires.room,
       c.loop-token.invariant.capacity,
-      has-many c.args.width c.args.base c.args.exit c.args.first c.args.wire c.args.yard.now c.loop-token.yard c.args.grants.now.items
-          c.loop-token.grants.items c.loop-token.visit c.in-Some.token c.loop-token.invariant.so_far c.requires.wire next,
-      some-left c.args.width c.args.base c.args.exit c.args.first c.args.wire c.args.yard.now c.loop-token.yard c.args.grants.now.items
-          c.loop-token.grants.items c.loop-token.visit c.in-Some.token c.loop-token.invariant.so_far c.requires.wire next,
+      has-many c.loop-token.invariant.so_far c.requires.wire next,
+      some-left c.loop-token.invariant.so_far c.requires.wire next,
       c.loop-token.grants.ok,
     )
 
 pub loop-token-smaller : goal.loop-token-smaller
 loop-token-smaller c =
-    let next : IsFirst c.args.wire c.loop-token.yard c.in-Some.token =
-    first-is c.args.wire c.in-Some.token c.loop-token.yard (sym c.in-Some.is ∙ c.first.ensures) in
-    one-less c.args.width c.args.base c.args.exit c.args.first c.args.wire c.args.yard.now c.loop-token.yard c.args.grants.now.items
-    c.loop-token.grants.items c.loop-token.visit c.in-Some.token c.loop-token.invariant.so_far c.requires.wire next
-    c.release-client.new.self c.release-client.ensures.released
+    let next = first-is c.args.wire c.in-Some.token c.loop-token.yard (sym c.in-Some.is ∙ c.first.ensures) in
+    one-less c.loop-token.invariant.so_far c.requires.wire next _ c.release-client.ensures.released
 
 pub loop-token-preserved : goal.loop-token-preserved
 loop-token-preserved c =
-    let next : IsFirst c.args.wire c.loop-token.yard c.in-Some.token =
-    first-is c.args.wire c.in-Some.token c.loop-token.yard (sym c.in-Some.is ∙ c.first.ensures) in
+    let next = first-is c.args.wire c.in-Some.token c.loop-token.yard (sym c.in-Some.is ∙ c.first.ensures) in
     let so_far = c.loop-token.invariant.so_far in
-    let width : ℕ = c.args.width in
-    let client : c.release-client.result ≡ next.client =
-    client-is width c.args.base c.args.exit c.args.first c.args.wire c.args.yard.now c.loop-token.yard c.args.grants.now.items
-    c.loop-token.grants.items c.loop-token.visit c.in-Some.token so_far c.requires.wire next
-    c.release-client.result c.release-client.ensures.client.0 c.release-client.ensures.client.1 in
-    let grants : c.push_reserved.new.self.items
-    ≡ c.loop-token.grants.items ++ record {
-      client = next.client;
-      exit = c.args.exit;
-      visit = c.loop-token.visit;
-      name = name_of width c.args.exit c.loop-token.visit - c.args.base;
-    } ∷ [] =
-    c.push_reserved.ensures.items
-    ∙ (λ i. c.loop-token.grants.items ++ record
-    { client = client i; exit = c.args.exit; visit = c.loop-token.visit; name = c.name_of.ensures i - c.args.base } ∷ []) in
+    let client = client-is so_far c.requires.wire next c.release-client.result c.release-client.ensures.client.0
+    c.release-client.ensures.client.1 in
+    let by : ℕ → ℕ → Grant =
+    λ client name. record { client = client; exit = c.args.exit; visit = c.loop-token.visit; name = name } in
+    let grants = c.push_reserved.ensures.items
+    ∙ (λ i. c.loop-token.grants.items ++ by (client i) (c.name_of.ensures i - c.args.base) ∷ []) in
     record {
-      so_far = leaves-on width c.args.base c.args.exit c.args.first c.args.wire c.args.yard.now c.loop-token.yard c.args.grants.now.items
-          c.loop-token.grants.items c.loop-token.visit c.in-Some.token so_far c.requires.wire next
-          c.release-client.new.self c.push_reserved.new.self.items c.release-client.ensures.released grants;
+      so_far = leaves-on so_far c.requires.wire next c.release-client.new.self c.push_reserved.new.self.items
+          c.release-client.ensures.released grants;
       capacity = c.push_reserved.ensures.capacity ∙ c.loop-token.invariant.capacity;
     }
 
@@ -72,15 +51,13 @@ pub returns-clause-freed : goal.returns-clause-freed
 returns-clause-freed c =
     let none : on c.loop-token.yard.lists c.args.wire ≡ [] =
     none-first (on c.loop-token.yard.lists c.args.wire) (λ token is. c.in_default.not-Some token (c.first.ensures ∙ is)) in
-    (left-all c.args.width c.args.base c.args.exit c.args.first c.args.wire c.args.yard.now c.loop-token.yard c.args.grants.now.items
-    c.loop-token.grants.items c.loop-token.visit c.loop-token.invariant.so_far none).0
+    (left-all c.loop-token.invariant.so_far none).0
 
 pub returns-clause-granted : goal.returns-clause-granted
 returns-clause-granted c =
     let none : on c.loop-token.yard.lists c.args.wire ≡ [] =
     none-first (on c.loop-token.yard.lists c.args.wire) (λ token is. c.in_default.not-Some token (c.first.ensures ∙ is)) in
-    (left-all c.args.width c.args.base c.args.exit c.args.first c.args.wire c.args.yard.now c.loop-token.yard c.args.grants.now.items
-    c.loop-token.grants.items c.loop-token.visit c.loop-token.invariant.so_far none).1
+    (left-all c.loop-token.invariant.so_far none).1
 
 pub name_of-requires : goal.name_of-requires
 name_of-requires c =

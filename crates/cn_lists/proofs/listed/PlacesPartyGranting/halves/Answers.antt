@@ -1,4 +1,4 @@
-use Rattle.cn_lists.proofs.Common.{ℕ, ◌+◌, ◌-◌, ◌*◌, ◌/◌, ◌<◌, ◌≤◌, ◌≡◌, suc, zero, ap, ◌∙◌, arith, every_second}
+use Rattle.cn_lists.proofs.Common.{ℕ, ◌+◌, ◌-◌, ◌*◌, ◌/◌, ◌<◌, ◌≤◌, ◌≡◌, ap, ◌∙◌, arith, every_second}
 use Rattle.cn_lists.proofs.Groups.{placed-even, placed-odd, within-part}
 use Rattle.cn_lists.proofs.listed.PlacesPartyGranting.halves.Goals as goal
 
@@ -22,9 +22,6 @@ returns c frame tokens stand =
   where
     odd : (x s h m long : ℕ) → 0 < h → 2 * h ≤ m + 1 → x + s * m < long → x + s + 2 * s * (h - 1) < long
     odd x s h m long some less is =
-        let part : s * m ≡ s + s * (m - 1) = by m (omega (arith, some, less)) in
+        let next : m ≡ 1 + (m - 1) = omega (arith, some, less) in
+        let part : s * m ≡ s + s * (m - 1) = ap (λ (k : ℕ). s * k) next ∙ omega arith in
         within-part (x + s) s (h - 1) (m - 1) long (omega (arith, less)) (omega (arith, is, part))
-      where
-        by : (m : ℕ) → 0 < m → s * m ≡ s + s * (m - 1)
-        by (suc m) low = let same : suc m - 1 ≡ m = omega arith in rw same (omega arith)
-        by zero low = absurd (omega (arith, low))

@@ -1,4 +1,4 @@
-use Rattle.cn_floor.proofs.Common.{◌≡◌, ℕ, List, arith, ap, sym, ◌∙◌, subst, IsClosed, Start, WordsValue, clients_in, slots_items, word_count, words_in, IfSome, words_before, IsClosedFloor, QuietValue, IsDifference, NoneWent}
+use Rattle.cn_floor.proofs.Common.{◌≡◌, ℕ, List, arith, ap, sym, ◌∙◌, subst, IsClosed, Start, WordsValue, clients_in, word_count, IfSome, words_before, IsClosedFloor, QuietValue, IsDifference, NoneWent}
 use Rattle.cn_floor.proofs.floor.closed_floor.ClosedFloor.quiet_in.Goals as goal
 
 pub copy_words-requires-clause-places : goal.copy_words-requires-clause-places
@@ -27,8 +27,7 @@ closed-requires-clause-clients c =
 pub invariant_of-result : goal.invariant_of-result
 invariant_of-result c =
     let start : Start = c.self.inside.lane.value.home.start in
-    let before : c.args.before ≡ words_before start =
-    c.requires.before ∙ ap (λ (q : QuietValue). words_before q.start) (sym c.self.view_is) in
+    let before = c.requires.before ∙ ap (λ (q : QuietValue). words_before q.start) (sym c.self.view_is) in
     let copied = c.copy_words.ensures in
     let words : c.closed.result.words ≡ c.copy_words.new.list.items = ap (λ (w : WordsValue). w.words) c.closed.ensures in
     record {
@@ -49,6 +48,5 @@ invariant_of-result c =
 pub returns : goal.returns
 returns c =
     let copied = c.copy_words.ensures in
-    let words : c.closed.result.words ≡ words_in c.self.inside.stride (slots_items c.self.inside.table.words) =
-    ap (λ (w : WordsValue). w.words) c.closed.ensures ∙ copied in
+    let words = ap (λ (w : WordsValue). w.words) c.closed.ensures ∙ copied in
     (λ i. record { start = c.self.inside.lane.value.home.start; did = c.self.inside.lane.value.view; words = words i }) ∙ c.self.view_is

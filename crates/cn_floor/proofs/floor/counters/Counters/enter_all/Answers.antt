@@ -10,8 +10,7 @@ fetch_add-requires g c =
     let here = ap (λ (p : PostValue). p.home) c.post.view_is ∙ c.requires.own ∙ sym c.self.view_is in
     let was = c.post.invariant in
     let about : c.args.self.now.start ≡ start_of key = sym (ap (λ (h : FloorValue). h.start) c.self.view_is) in
-    let entry : c.args.entry < key.network.value.table.entries =
-    subst (λ (s : Start). c.args.entry < s.network.table.entries) about c.requires.entry in
+    let entry = subst (λ (s : Start). c.args.entry < s.network.table.entries) about c.requires.entry in
     let inside : c.args.entry < length c.post.inside.seat.me.0.tokens =
     omega (
       arith,

@@ -39,10 +39,8 @@ returns-clause-answer g c =
     let w : View = c.args.other.me.0 in
     let joined = ap (λ me. me.0) c.join_seat.ensures.2 ∙ (λ i. both_of (c.look.ensures.looks.0 i) (c.look-2.ensures.looks.0 i)) in
     let both = answers-both c.args.self.now.start (after_look v) (after_look w) c.load_all-entered.result
-    (subst (λ (x : View). IsAnswer c.args.self.now.start x c.load_all-entered.result) joined c.load_all-entered.ensures.answer) in (
-      record { own = both.0.own; seen = both.0.seen; names = both.0.names; quota = both.0.quota },
-      record { own = both.1.own; seen = both.1.seen; names = both.1.names; quota = both.1.quota },
-    )
+    (subst (λ (x : View). IsAnswer c.args.self.now.start x c.load_all-entered.result) joined c.load_all-entered.ensures.answer) in
+    (search, search)
 
 cut-first : (start : Start) (entered : ℕ) (p : Pair) (v l : View) → p.first ≡ after_look v
     → l ≡ after_entered start entered (both_of p.first p.second) → cut_first p l ≡ first_after start entered v

@@ -13,13 +13,11 @@ fetch_add-requires g c =
     let here = ap (λ (p : PostValue). p.home) c.post.view_is ∙ c.requires.own ∙ sym c.self.view_is in
     let was = c.post.invariant in
     let about : c.args.self.now.start ≡ start = sym (ap (λ (h : FloorValue). h.start) c.self.view_is) in
-    let word : c.word_of.result ≡ end_word start.network.table c.args.end =
-    c.word_of.ensures.word ∙ ap (λ (s : Start). end_word s.network.table c.args.end) about in
+    let word = c.word_of.ensures.word ∙ ap (λ (s : Start). end_word s.network.table c.args.end) about in
     let stands : Stands start.network.table c.args.end = subst (λ (s : Start). Stands s.network.table c.args.end) about c.requires.stands in
     let same : c.args.stride ≡ c.self.inside.stride =
     c.requires.stride ∙ ap (λ (h : FloorValue). h.start.stride) (sym c.self.view_is) ∙ c.self.invariant.apart in
-    let place : c.place_of-place.result ≡ c.self.inside.stride * c.word_of.result =
-    c.place_of-place.ensures ∙ ap (λ (k : ℕ). k * c.word_of.result) same in
+    let place = c.place_of-place.ensures ∙ ap (λ (k : ℕ). k * c.word_of.result) same in
     let low = end-there start.network.table c.args.end stands in (
       ap (λ (h : FloorValue). h.table) here,
       there c.self.inside c.self.invariant place (omega (arith, word, low)),

@@ -13,8 +13,7 @@ fetch_add-requires g c =
     let here = ap (λ (p : PostValue). p.home) c.post.view_is ∙ c.requires.own ∙ sym c.self.view_is in
     let was = c.post.invariant in
     let about : c.args.self.now.start ≡ start = sym (ap (λ (h : FloorValue). h.start) c.self.view_is) in
-    let word : c.word_of.result ≡ end_word start.network.table c.args.end =
-    c.word_of.ensures.word ∙ ap (λ (s : Start). end_word s.network.table c.args.end) about in
+    let word = c.word_of.ensures.word ∙ ap (λ (s : Start). end_word s.network.table c.args.end) about in
     let stands : Stands start.network.table c.args.end = subst (λ (s : Start). Stands s.network.table c.args.end) about c.requires.stands in
     let low = end-there start.network.table c.args.end stands in (
       ap (λ (h : FloorValue). h.table) here,
