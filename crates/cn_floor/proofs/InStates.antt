@@ -1,5 +1,4 @@
 -- Between two atomic steps: what keeps the rule.
-pub mod Places
 pub mod Spreads
 pub mod Placed
 pub mod Laid
@@ -13,6 +12,7 @@ pub mod Sole
 pub mod Fresh
 pub mod Reached
 pub mod Kept
+pub mod Adds
 pub mod Enters
 pub mod Steps
 pub mod Sweeps
@@ -25,4 +25,3 @@ pub mod Missing
 pub mod Order
 pub mod GoingOn
 pub mod Overtaken
-pub mod Together

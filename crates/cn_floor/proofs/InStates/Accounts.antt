@@ -1,5 +1,5 @@
 -- Each view accounts for its clients, also after a step.
-use Rattle.cn_floor.proofs.Common.{◌≡◌, ℕ, ◌+◌, ◌-◌, ◌*◌, ◌%◌, ◌<◌, inl, inr, eqb, [], ◌∷◌, ◌++◌, length, get_or, ap, ◌∙◌, arith, Balancer, End, Exit, Grant, IsAccounted, IsThere, Network, View, after_enter, after_step, base, cases_eq, end_of, eq-eqb, last_on, length-map-range_with_len, length_push, name_of, ne_eqb, on, on_in, output_wire, sum-below-one, sum-below-same, sum-below-zero, sum_below, when, without, All-push, one_at, sum-below-shift}
+use Rattle.cn_floor.proofs.Common.{◌≡◌, ℕ, ◌+◌, ◌-◌, ◌*◌, ◌%◌, ◌<◌, inl, inr, eqb, [], ◌∷◌, ◌++◌, length, get_or, ap, ◌∙◌, arith, Balancer, End, Exit, Grant, IsAccounted, IsThere, Network, View, after_enter, after_step, base, cases_eq, end_of, eq-eqb, last_on, length-map-range_with_len, length_push, levels_in, name_of, ne_eqb, on, on_in, output_wire, sum-below-one, sum-below-same, sum-below-zero, sum_below, tokens_in, when, without, All-push, one_at, sum-below-shift}
 use Rattle.cn_floor.proofs.InStates.Ledgers.{on-after-enter, on-after_step, onto, Lands}
 
 -- ---- sums over wires, each counted g times
@@ -29,8 +29,8 @@ weighed-on n g old new from to h =
 pub at-none : (n : ℕ) (g : ℕ → ℕ) → sum_below n (λ u. g u * 0) ≡ 0
 at-none n g = sum-below-zero n (λ u. g u * 0) (λ u. omega arith)
 
-once : (n : ℕ) (f : ℕ → ℕ) → sum_below n (λ u. 1 * f u) ≡ sum_below n f
-once n f = sum-below-same n (λ u. 1 * f u) f (λ u l. omega arith)
+pub levels-one : (v : View) → tokens_in v.tokens ≡ levels_in (λ _. 1) v
+levels-one v = sum-below-same (length v.tokens) (λ u. on_in u v) (λ u. 1 * on_in u v) (λ u l. omega arith)
 
 -- ---- who comes in
 
@@ -57,8 +57,8 @@ module _ (network : Network) (token client entry : ℕ) (v : View) (low : entry 
         account.all,
         length_push v.entries entry,
         weighed-came (λ _. 1),
-        once (length came.tokens) (λ u. on_in u came),
-        once (length v.tokens) (λ u. on_in u v),
+        levels-one came,
+        levels-one v,
       );
       entries = All-push (λ (u : ℕ). u < network.table.entries) v.entries entry account.entries low;
       walked = λ level is. omega (arith, account.walked level is, weighed-came level, is.entry entry low);
@@ -98,8 +98,8 @@ module _ (network : Network) (token client wire n : ℕ) (v : View) (is : IsTher
           account.all,
           weighed-went (λ _. 1) (Balancer b) lands,
           at-one m out (λ _. 1) lands,
-          once (length (went (Balancer b)).tokens) (λ u. on_in u (went (Balancer b))),
-          once m (λ u. on_in u v),
+          levels-one (went (Balancer b)),
+          levels-one v,
         );
         entries = account.entries;
         walked = λ level lv.
@@ -122,8 +122,8 @@ module _ (network : Network) (token client wire n : ℕ) (v : View) (is : IsTher
           account.all,
           weighed-went (λ _. 1) (Exit i) lands,
           at-none m (λ _. 1),
-          once (length (went (Exit i)).tokens) (λ u. on_in u (went (Exit i))),
-          once m (λ u. on_in u v),
+          levels-one (went (Exit i)),
+          levels-one v,
           length_push v.grants g,
         );
         entries = account.entries;

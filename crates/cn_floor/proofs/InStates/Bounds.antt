@@ -1,5 +1,6 @@
 -- No count is more than the clients that came, and no name is one of an earlier floor.
-use Rattle.cn_floor.proofs.Common.{◌≡◌, ℕ, ◌+◌, ◌<◌, ◌≤◌, inl, inr, cond, [], length, sum_by, refl, ap, ◌∙◌, arith, End, Exit, HoldsAt, Stands, Start, State, Table, View, base, cases_lt, clients_in, count_in, entered_in, le-ltb, ledger_of, lt-ltb, name_of, once_below, sum-below-same, sum_below, times, share, name-below, sum-below-plus, sum-below-total, times-below, counts-few, tight}
+use Rattle.cn_floor.proofs.Common.{◌≡◌, ℕ, ◌+◌, ◌<◌, ◌≤◌, inl, inr, cond, [], length, sum_by, refl, subst, sym, ap, ◌∙◌, arith, End, Exit, HoldsAt, Stands, Start, State, Table, View, base, cases_lt, clients_in, count_in, end_word, entered_in, get_or, le-ltb, ledger_of, lt-ltb, name_of, once_below, sum-below-part, sum-below-same, sum_below, times, share, name-below, sum-below-plus, sum-below-total, times-below, counts-few, tight}
+use Rattle.cn_floor.proofs.InStates.Raised.{count-word, entered-word}
 use Rattle.cn_floor.proofs.InStates.Totals.{total-le, total_same}
 
 module _ (start : Start) (s : State (Unit {0}) View) (kept : HoldsAt start s) where
@@ -26,6 +27,14 @@ module _ (start : Start) (s : State (Unit {0}) View) (kept : HoldsAt start s) wh
   pub count-few : (end : End) → Stands t end → count_in t s.words end ≤ clients_in t s.words
   count-few end stands = counts-few t kept.began.network.formed (ledger_of t start.words s.words s.views) kept.rule.sound end stands
 
+  -- so no word is more than may come in
+  pub entry-few : (entry : ℕ) → entry < t.entries → get_or s.words (1 + entry) 0 ≤ base start + start.quota
+  entry-few entry low =
+      omega (arith, entered-word t s.words entry low, sum-below-part t.entries entry (entered_in t s.words) low, few-came)
+
+  pub end-few : (end : End) → Stands t end → get_or s.words (end_word t end) 0 ≤ base start + start.quota
+  end-few end stands = omega (arith, count-word t s.words end stands, count-few end stands, few-came)
+
   -- nor is it less than the carried one
   pub count-risen : (end : End) → Stands t end → count_in t start.words end ≤ count_in t s.words end
   count-risen end stands = elim (cases_lt (count_in t s.words end) (count_in t start.words end)) [
@@ -50,3 +59,9 @@ module _ (start : Start) (s : State (Unit {0}) View) (kept : HoldsAt start s) wh
         | inl l ↦ let below : n < share (base start) t.width i = (name-below (base start) t.width i n h).1 l in
             absurd (omega (arith, count-risen (Exit i) h))
       ]
+
+  pub names-late : (end : End) → Stands t end → (n : ℕ) → count_in t s.words end ≡ n → (i : ℕ) → end ≡ Exit i
+      → base start ≤ name_of t.width i n
+  names-late end stands n count i is =
+      subst (λ (k : ℕ). base start ≤ name_of t.width i k) (ap (count_in t s.words) (sym is) ∙ count)
+      (name-later i (subst (Stands t) is stands))

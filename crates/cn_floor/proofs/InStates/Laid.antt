@@ -1,4 +1,5 @@
 -- Words that are laid a stride apart one after the other.
+use Rattle.std.proofs.lemmas.List.{replicate-append-replicate}
 use Rattle.cn_floor.proofs.Common.{◌≡◌, ℕ, zero, suc, ◌+◌, ◌-◌, ◌*◌, ◌<◌, ◌≤◌, List, [], ◌∷◌, ◌++◌, length, replicate, get_or, set, refl, ap, ◌∙◌, arith, spread}
 
 -- the first words, and zeros for the others
@@ -20,19 +21,13 @@ laid-all [] (suc n) all = refl
 laid-all (w ∷ ws) zero all = absurd (omega arith)
 laid-all (w ∷ ws) (suc n) all = ap (λ (xs : List ℕ). w ∷ xs) (laid-all ws n (omega arith))
 
-zeros-more : (m n : ℕ) → replicate {A = ℕ} m 0 ++ replicate n 0 ≡ replicate (m + n) 0
-zeros-more zero n = let same : n ≡ 0 + n = omega arith in ap (λ (k : ℕ). replicate {A = ℕ} k 0) same
-zeros-more (suc m) n =
-    let same : suc (m + n) ≡ suc m + n = omega arith in
-    ap (λ (xs : List ℕ). 0 ∷ xs) (zeros-more m n) ∙ ap (λ (k : ℕ). replicate {A = ℕ} k 0) same
-
 -- zeros a stride apart are zeros
 pub spread-zeros : (stride : ℕ) → 1 ≤ stride → (n : ℕ) → spread stride (replicate n 0) ≡ replicate (stride * n) 0
 spread-zeros stride some zero = let none : 0 ≡ stride * 0 = omega arith in ap (λ (k : ℕ). replicate {A = ℕ} k 0) none
 spread-zeros stride some (suc n) =
     let more : suc (stride - 1 + stride * n) ≡ stride * suc n = omega arith in
     ap (λ (xs : List ℕ). 0 ∷ (replicate (stride - 1) 0 ++ xs)) (spread-zeros stride some n)
-    ∙ ap (λ (xs : List ℕ). 0 ∷ xs) (zeros-more (stride - 1) (stride * n))
+    ∙ ap (λ (xs : List ℕ). 0 ∷ xs) (replicate-append-replicate (stride - 1) (stride * n) 0)
     ∙ ap (λ (k : ℕ). replicate {A = ℕ} k 0) more
 
 -- words that lie side by side

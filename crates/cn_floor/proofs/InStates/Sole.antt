@@ -1,5 +1,6 @@
 -- Where one lane has the whole quota, the next number is the count of its own.
-use Rattle.cn_floor.proofs.Common.{◌≡◌, ℕ, zero, suc, ◌+◌, ◌*◌, ◌<◌, ◌≤◌, ◌&&◌, inl, inr, Bool, true, false, cond, length, sum_by, sym, refl, ap, ◌∙◌, arith, eqb, Balancer, End, Exit, Grant, HoldsAt, Stands, Start, State, Table, View, cases_lt, count_in, eq-eqb, get_elem?, given_in, le-ltb, lt-ltb, once_below, some, sum-below-one, sum-below-same, sum-below-zero, count_by-le-length, sum_below, Passage, own_count, once-in, sum-below-plus, sum-below-total, levels}
+use Rattle.cn_floor.proofs.Common.{◌≡◌, ℕ, zero, suc, ◌+◌, ◌*◌, ◌<◌, ◌≤◌, ◌&&◌, Bool, true, false, cond, length, List, count_by, sum_by, sym, refl, ap, ◌∙◌, arith, eqb, Balancer, End, Exit, Grant, HoldsAt, Stands, Start, State, Table, View, count_in, eq-eqb, get_elem?, given_in, once_below, some, sum-below-one, sum-below-same, sum-below-zero, count_by-le-length, sum_below, Passage, own_count, once-in, sum-below-plus, sum-below-total, levels}
+use Rattle.cn_spec.proofs.CallerLemmas.{sum-below-cut}
 use Rattle.cn_floor.proofs.InStates.Bounds.{count-risen}
 use Rattle.cn_floor.proofs.InStates.Walked.{no-levels}
 use Rattle.cn_floor.proofs.InStates.Totals.{mine-only, part-le, total_same}
@@ -7,40 +8,33 @@ use Rattle.cn_floor.proofs.InStates.Totals.{mine-only, part-le, total_same}
 -- the numbers below c, of those below n
 below-once : (n c : ℕ) → c ≤ n → sum_below n (once_below c) ≡ c
 unfolding sum_below
-below-once zero c h = omega arith
-below-once (suc n) c h = elim (cases_lt n c) [
-  | inl l ↦
-      let e : c ≡ suc n = omega arith in
-      let rest = sum-below-same n (once_below c) (once_below n)
-      (λ u k. ap {B = ℕ} (λ b. cond b 1 0) (lt-ltb u c (omega arith) ∙ sym (lt-ltb u n k))) in
-      let here : ◌≡◌ {A = ℕ} (once_below c n) 1 = ap {B = ℕ} (λ b. cond b 1 0) (lt-ltb n c l) in
-      omega (arith, below-once n n (omega arith))
-  | inr l ↦
-      let here : ◌≡◌ {A = ℕ} (once_below c n) 0 = ap {B = ℕ} (λ b. cond b 1 0) (le-ltb n c l) in
-      omega (arith, below-once n c l)
-]
+below-once n c h = sum-below-cut n c (λ _. 1) h ∙ each c
+  where
+    each : (k : ℕ) → sum_below k (λ _. 1) ≡ k
+    each zero = refl
+    each (suc k) = omega (arith, each k)
 
 -- a number below n, looked for among these
 found : (b : Bool) (m n : ℕ) → (b ≡ true → m < n) → sum_below n (λ k. cond (b && eqb m k) 1 0) ≡ cond b 1 0
 found false m n h = sum-below-zero n (λ _. 0) (λ _. refl)
 found true m n h = sum-below-one n m 1 (h refl)
 
--- where a lane's numbers at an end are all below n, there are as many as it was given
+-- where the numbers of those at an end are all below n, they are as many
+own-of : {X : Type 0} (at : X → Bool) (number : X → ℕ) (xs : List X) (n : ℕ)
+    → ((k : ℕ) → 1 ≤ count_by (λ x. at x && eqb (number x) k) xs → k < n)
+    → sum_below n (λ k. count_by (λ x. at x && eqb (number x) k) xs) ≡ count_by at xs
+own-of {X} at number xs n low =
+    let f : ℕ → X → ℕ = λ k x. cond (at x && eqb (number x) k) 1 0 in
+    sum-below-total f xs n
+    ∙ total_same (λ x. sum_below n (λ k. f k x)) (λ x. cond (at x) 1 0) xs (λ i x a.
+    found (at x) (number x) n (λ h.
+    let one : ◌≡◌ {A = ℕ} (f (number x) x) 1 = rw (h, eq-eqb (number x) (number x) refl) refl in
+    low (number x) (omega (arith, part-le (f (number x)) xs i x a))))
+
+-- so a lane was given as many
 own : (end : End) (v : View) (n : ℕ) → ((k : ℕ) → 1 ≤ given_in end k v → k < n) → sum_below n (λ k. given_in end k v) ≡ own_count end v
-own (Balancer b) v n low =
-    let f : ℕ → Passage → ℕ = λ k p. cond (eqb b p.balancer && eqb p.number k) 1 0 in
-    sum-below-total f v.passages n
-    ∙ total_same (λ p. sum_below n (λ k. f k p)) (λ (p : Passage). cond (eqb b p.balancer) 1 0) v.passages (λ i p at.
-    found (eqb b p.balancer) p.number n (λ h.
-    let one : ◌≡◌ {A = ℕ} (f p.number p) 1 = rw (h, eq-eqb p.number p.number refl) refl in
-    low p.number (omega (arith, part-le (f p.number) v.passages i p at))))
-own (Exit j) v n low =
-    let f : ℕ → Grant → ℕ = λ k g. cond (eqb j g.exit && eqb g.visit k) 1 0 in
-    sum-below-total f v.grants n
-    ∙ total_same (λ g. sum_below n (λ k. f k g)) (λ (g : Grant). cond (eqb j g.exit) 1 0) v.grants (λ i g at.
-    found (eqb j g.exit) g.visit n (λ h.
-    let one : ◌≡◌ {A = ℕ} (f g.visit g) 1 = rw (h, eq-eqb g.visit g.visit refl) refl in
-    low g.visit (omega (arith, part-le (f g.visit) v.grants i g at))))
+own (Balancer b) v n low = own-of (λ p. eqb b p.balancer) (λ p. p.number) v.passages n low
+own (Exit i) v n low = own-of (λ g. eqb i g.exit) (λ g. g.visit) v.grants n low
 
 module _ (start : Start) (s : State (Unit {0}) View) (kept : HoldsAt start s) where
   abbrev t : Table

@@ -1,18 +1,16 @@
 -- A rule about words holds as well of a table in which they lie a stride apart.
+use Rattle.std.proofs.lemmas.List.{get_or-append_right, set-append_right}
 use Rattle.cn_floor.proofs.Common.{◌≡◌, ℕ, zero, suc, ◌+◌, ◌-◌, ◌*◌, ◌<◌, ◌≤◌, List, [], ◌∷◌, ◌++◌, length, replicate, get_or, set, sym, refl, ap, ◌∙◌, subst, arith, Allows, Me, Splits, State, length-replicate, spread, length-append, mul-le-mul_left, Act, Joins, Valid, carried_after, stepped, HoldsSpread, picked}
 
 -- ---- past what lies between
 
 get-past : (g j : ℕ) (xs : List ℕ) → get_or (replicate g 0 ++ xs) (g + j) 0 ≡ get_or xs j 0
-get-past zero j xs = ap (λ (n : ℕ). get_or xs n 0) (omega arith)
-get-past (suc g) j xs = let later : suc g + j ≡ suc (g + j) = omega arith in
-    ap (λ (n : ℕ). get_or (0 ∷ (replicate g 0 ++ xs)) n 0) later ∙ get-past g j xs
+get-past g j xs = get_or-append_right (replicate g 0) xs g (g + j) 0 (length-replicate g 0) (omega arith)
+    ∙ ap (λ (k : ℕ). get_or xs k 0) (omega arith)
 
 set-past : (g j n : ℕ) (xs : List ℕ) → set (replicate g 0 ++ xs) (g + j) n ≡ replicate g 0 ++ set xs j n
-set-past zero j n xs = ap (λ (m : ℕ). set xs m n) (omega arith)
-set-past (suc g) j n xs =
-    let later : suc g + j ≡ suc (g + j) = omega arith in
-    ap (λ (m : ℕ). set (0 ∷ (replicate g 0 ++ xs)) m n) later ∙ ap (λ (ys : List ℕ). 0 ∷ ys) (set-past g j n xs)
+set-past g j n xs = set-append_right (replicate g 0) xs g (g + j) n (length-replicate g 0) (omega arith)
+    ∙ ap (λ (k : ℕ). replicate g 0 ++ set xs k n) (omega arith)
 
 picked-past : (stride g : ℕ) (xs : List ℕ) → picked stride g (replicate g 0 ++ xs) ≡ picked stride 0 xs
 picked-past stride zero xs = refl

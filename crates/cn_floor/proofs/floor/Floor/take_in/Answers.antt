@@ -1,4 +1,4 @@
-use Rattle.cn_floor.proofs.Common.{◌≡◌, ◌+◌, ◌-◌, ◌++◌, List, [], length, get_or, length-append, sym, ap, ◌∙◌, subst, arith, FloorValue, Grant, LaneValue, Lists, PostValue, View, on_in, tokens_in, nobody-on, after_join, after_look, FitsLanes}
+use Rattle.cn_floor.proofs.Common.{◌≡◌, ◌-◌, ◌++◌, List, [], length, get_or, length-append, sym, ap, ◌∙◌, subst, arith, FloorValue, Grant, LaneValue, Lists, PostValue, View, on_in, tokens_in, nobody-on, after_join, after_look, FitsLanes}
 use Rattle.cn_floor.proofs.InLane.Lanes.{lane-with-way}
 use Rattle.cn_floor.proofs.floor.Floor.take_in.Goals as goal
 
