@@ -1,5 +1,5 @@
--- Each view accounts for its clients, also after a step.
-use Rattle.cn_floor.proofs.Common.{◌≡◌, ℕ, ◌+◌, ◌-◌, ◌*◌, ◌%◌, ◌<◌, inl, inr, eqb, [], ◌∷◌, ◌++◌, length, get_or, ap, ◌∙◌, arith, Balancer, End, Exit, Grant, IsAccounted, IsThere, Network, View, after_enter, after_step, base, cases_eq, end_of, eq-eqb, last_on, length-map-range_with_len, length_push, levels_in, name_of, ne_eqb, on, on_in, output_wire, sum-below-one, sum-below-same, sum-below-zero, sum_below, tokens_in, when, without, All-push, one_at, sum-below-shift}
+-- Each view accounts for its clients, also after a step, and for how many steps they took.
+use Rattle.cn_floor.proofs.Common.{◌≡◌, ℕ, ◌+◌, ◌-◌, ◌*◌, ◌%◌, ◌<◌, inl, inr, eqb, [], ◌∷◌, ◌++◌, length, get_or, ap, ◌∙◌, arith, Balancer, End, Exit, Grant, IsAccounted, IsThere, Network, View, after_enter, after_step, base, cases_eq, end_of, eq-eqb, last_on, length-map-range_with_len, length_push, levels_in, name_of, ne_eqb, on, on_in, output_wire, sum-below-one, sum-below-same, sum-below-zero, sum_below, tokens_in, when, without, All-push, one_at, sum-below-shift, refl, Start, sum-below-part, IsNetwork, levels, TakesItsSteps}
 use Rattle.cn_floor.proofs.InStates.Ledgers.{on-after-enter, on-after_step, onto, Lands}
 
 -- ---- sums over wires, each counted g times
@@ -133,3 +133,19 @@ module _ (network : Network) (token client wire n : ℕ) (v : View) (is : IsTher
             ap (λ (k : ℕ). network.depth * k) (length_push v.grants g) in
             omega (arith, account.walked level lv, weighed-went level (Exit i) lands, at-none m level);
       }
+
+-- How many steps the tokens of a lane have taken.
+
+-- where nobody is inside, there are no levels to add up
+pub no-levels : (level : ℕ → ℕ) (v : View) → tokens_in v.tokens ≡ 0 → levels_in level v ≡ 0
+no-levels level v none =
+    sum-below-same (length v.tokens) (λ u. level u * on_in u v) (λ _. 0) (λ u l.
+    let z : on_in u v ≡ 0 = omega (arith, sum-below-part (length v.tokens) u (λ x. on_in x v) l, none) in
+    ap (λ (x : ℕ). level u * x) z ∙ omega arith)
+    ∙ sum-below-zero (length v.tokens) (λ _. 0) (λ _. refl)
+
+pub takes-steps : (start : Start) (v : View) → IsNetwork start.network → IsAccounted start.network v → TakesItsSteps start v
+takes-steps start v net account none =
+    let (level, is) = levels start.network.table net.formed start.network.depth net.deep in
+    let spread : (d k : ℕ) → (d + 2) * k ≡ d * k + 2 * k = λ d k. omega arith in
+    omega (arith, account.all, account.walked level is, no-levels level v none, spread start.network.depth (length v.grants))

@@ -3,7 +3,7 @@ use Rattle.cn_floor.proofs.Common.{◌≡◌, ℕ, ◌+◌, ◌-◌, ◌≤◌, 
 use Rattle.cn_floor.proofs.InStates.Bounds.{few-came}
 use Rattle.cn_floor.proofs.InStates.Fresh.{fresh-load, load-says}
 use Rattle.cn_floor.proofs.InStates.Kept.{Recounted, kept-recounted}
-use Rattle.cn_floor.proofs.InStates.Raised.{entered-word}
+use Rattle.cn_floor.proofs.InStates.Ledgers.{entered-word}
 use Rattle.cn_floor.proofs.InStates.Totals.{get-here}
 
 recounted : (b : Bool) (start : Start) (ls : List ℕ) (v : View) → Recounted v (after_load_by b start ls v)

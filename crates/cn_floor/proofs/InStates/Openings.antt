@@ -3,7 +3,7 @@ use Rattle.cn_floor.proofs.Common.{◌≡◌, ℕ, zero, suc, ◌+◌, ◌&&◌,
 use Rattle.cn_floor.proofs.InStates.Fresh.{fresh-idle}
 use Rattle.cn_floor.proofs.InStates.Kept.{Measure, each-joined, ledger-alike, weight}
 use Rattle.cn_floor.proofs.InStates.Totals.{each-one}
-use Rattle.cn_floor.proofs.InStates.Walked.{no-levels}
+use Rattle.cn_floor.proofs.InStates.Accounts.{no-levels}
 
 nothing : (b : Bool) → ◌≡◌ {A = ℕ} (when b 0) 0
 nothing true = refl

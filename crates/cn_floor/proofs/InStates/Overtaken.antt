@@ -2,9 +2,7 @@
 -- client stands before its exit while as many others as there are exits walk through, one after the other: the first of
 -- them gets a greater name than those that are free, and the last one the name for which the one that stands had come.
 use Rattle.cn_floor.proofs.Common.{◌≡◌, ◌≢◌, ℕ, zero, suc, ◌+◌, ◌-◌, ◌*◌, ◌%◌, ◌<◌, ◌≤◌, ◌&&◌, inl, inr, Bool, true, false, eqb, All, List, [], ◌∷◌, ◌++◌, length, refl, sym, ap, ◌∙◌, subst, arith, All-append, All-cons, All-nil, mul-le-mul_left, mod_below, Balancer, End, Exit, IsSound, IsWellFormed, LeadsOn, Ledger, Stands, Table, cases_eq, cases_lt, end_of, eq-eqb, name_of, ne_eqb, output_wire, sum-below-one, sum-below-same, when, share, name-below, sum-below-plus, Counts, one_at, IsQuiescent, ◌⊎◌, all_entered, entering, leaving-there, passing-there, sound-leaves, tight, KeepsRealTimeOrder, client_of, Enter, Event, GoesFrom, Happens, LeadsTo, Step}
-use Rattle.cn_floor.proofs.InStates.GoingOn.{led-none, led-on}
-use Rattle.cn_floor.proofs.InStates.Order.{led-grow}
-use Rattle.cn_floor.proofs.InStates.Reached.{sound-led}
+use Rattle.cn_floor.proofs.InStates.Histories.{led-none, led-on, led-grow, sound-led}
 
 never : (a : Bool) → (a && false) ≡ false
 never true = refl

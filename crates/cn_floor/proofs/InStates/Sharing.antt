@@ -2,14 +2,13 @@
 use Rattle.cn_floor.proofs.Common.{◌≡◌, ℕ, ◌+◌, ◌*◌, ◌<◌, ◌≤◌, List, [], ◌∷◌, ◌++◌, length, max, set, sum_by, All, Grant, HaveDistinctNames, cond, eqb, map, times, times-map, sym, refl, ap, ◌∙◌, append-nil, arith, Allows, HoldsAt, IsAccounted, IsFresh, Joins, Lists, Looks, Me, Network, Splits, Start, StoodInState, IsAnswer, View, after_join, after_look, after_split, base, both_of, clients_in, get_elem?, get_or-append-add, get_or_append_left, get_or_past, keeps, length-append, length-map-range_with_len, levels_in, load_bound, nil_from_length, nobody, on, on_in, set-get_or, set_else, some, split_off, subst, sum-below-plus, sum-below-same, sum_below, sum_by-append, sum_by_push, sum-below-zero, tokens_in, All-append}
 use Rattle.cn_floor.specs.Views.{no_start}
 use Rattle.cn_floor.proofs.Lists.{made-on}
-use Rattle.cn_floor.proofs.InStates.Accounts.{levels-one}
+use Rattle.cn_floor.proofs.InStates.Accounts.{levels-one, no-levels}
 use Rattle.cn_floor.proofs.InStates.Bounds.{all-came}
 use Rattle.cn_floor.proofs.InStates.Fresh.{fresh-idle}
 use Rattle.cn_floor.proofs.InStates.Kept.{Measure, Wire, each-joined, joined, kept-recounted, kept_alike, weigh, weight}
 use Rattle.cn_floor.proofs.InStates.Names.{names-once}
 use Rattle.cn_floor.proofs.InStates.Openings.{accounted-new, none-new, on-new}
 use Rattle.cn_floor.proofs.InStates.Totals.{each-set, each-snoc, get-here, part-le, total-set}
-use Rattle.cn_floor.proofs.InStates.Walked.{no-levels}
 
 -- a view is what two others are together
 pub record IsSum (m : ℕ) (v w both : View) : Type 0 where

@@ -1,13 +1,11 @@
 -- The rule is kept where a token goes on.
 use Rattle.cn_floor.proofs.Common.{◌≡◌, ℕ, ◌+◌, ◌-◌, ◌%◌, ◌^◌, ◌<◌, ◌≤◌, true, cond, List, [], length, get_or, set, sym, refl, ap, ◌∙◌, arith, subst, length-set, Allows, Balancer, End, Exit, Grant, HoldsAt, IsAccounted, IsFresh, IsSound, IsThere, Ledger, Me, Stands, Start, State, Table, View, after_step, base, clients_in, count_in, end_of, end_word, entered_in, eq-eqb, get_elem?, keeps, ledger_of, load_bound, lt-ltb, name_of, once_below, output_wire, some, times, All-push, is_end, IsMoveOf, GoesFrom, Step, Going, GoesOn, answer_at, bounded}
 use Rattle.cn_floor.proofs.InStates.Accounts.{accounted-after_step}
-use Rattle.cn_floor.proofs.InStates.Adds.{Adds, adds-step}
-use Rattle.cn_floor.proofs.InStates.Bounds.{end-few, name-later, names-late}
+use Rattle.cn_floor.proofs.InStates.Kept.{Adds, adds-step}
+use Rattle.cn_floor.proofs.InStates.Bounds.{end-few, name-later, names-late, sole}
 use Rattle.cn_floor.proofs.InStates.Fresh.{fresh-grown}
-use Rattle.cn_floor.proofs.InStates.Ledgers.{Lands, leaves, passes}
-use Rattle.cn_floor.proofs.InStates.Raised.{count-raised, count-word, end-there, entered-kept, lanes-raised, one-end, raised}
-use Rattle.cn_floor.proofs.InStates.Reached.{reached-by, sound-goes}
-use Rattle.cn_floor.proofs.InStates.Sole.{sole}
+use Rattle.cn_floor.proofs.InStates.Ledgers.{Lands, leaves, passes, count-raised, count-word, end-there, entered-kept, lanes-raised, one-end, raised}
+use Rattle.cn_floor.proofs.InStates.Histories.{reached-by, sound-goes}
 use Rattle.cn_floor.proofs.InStates.Totals.{each-set, total-set}
 
 pub end-self : (end : End) → is_end end end ≡ true

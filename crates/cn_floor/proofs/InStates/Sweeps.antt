@@ -1,10 +1,9 @@
 -- The rule is kept by a sweep: by as many events in turn as tokens go.
 use Rattle.cn_floor.proofs.Common.{◌≡◌, ℕ, ◌+◌, ◌*◌, ◌%◌, ◌^◌, ◌<◌, ◌≤◌, cond, List, [], ◌∷◌, ◌++◌, length, get_or, sym, refl, ap, ◌∙◌, arith, subst, append-nil, Allows, Balancer, End, Exit, HoldsAt, IsThere, IsWellFormed, LeadsOn, Me, Stands, Start, Table, View, after_step, after_sweep, count_in, end_of, end_word, get_elem?, keeps, last_on, ledger_at, length-map-range_with_len, ne_eqb, on, output_wire, some, times_in, without, mod_below, first-there, once-gone, once-moved, rest-on, AllGoOn, FloorState, GoInTurn, Sweeping, after_steps}
 use Rattle.cn_floor.proofs.Lists.{lists-after-on, lists_after}
-use Rattle.cn_floor.proofs.InStates.Adds.{Adds, added, added-more, added-none, adds-counted, adds-step}
-use Rattle.cn_floor.proofs.InStates.Bounds.{end-few, names-late}
-use Rattle.cn_floor.proofs.InStates.Raised.{count-raised, count-word, end-there}
-use Rattle.cn_floor.proofs.InStates.Sole.{sole}
+use Rattle.cn_floor.proofs.InStates.Kept.{Adds, added, added-more, added-none, adds-counted, adds-step}
+use Rattle.cn_floor.proofs.InStates.Bounds.{end-few, names-late, sole}
+use Rattle.cn_floor.proofs.InStates.Ledgers.{count-raised, count-word, end-there}
 use Rattle.cn_floor.proofs.InStates.Steps.{adds-step-on, end-self}
 use Rattle.cn_floor.proofs.InStates.Totals.{get-here}
 

@@ -1,5 +1,5 @@
 use Rattle.cn_floor.proofs.Common.{◌≡◌, ℕ, List, ap, length, sym, ◌∙◌, slots_items, spread, words_in, IsSpaced}
-use Rattle.cn_floor.proofs.InStates.Laid.{spread-one}
+use Rattle.cn_floor.proofs.InStates.Spreads.{spread-one}
 use Rattle.cn_floor.proofs.floor.reading.copy_by_stride.Goals as goal
 
 -- words side by side are all that the table has

@@ -1,5 +1,5 @@
 use Rattle.cn_floor.proofs.Common.{rules, sym, subst, arith, HoldsAt, Splits, Start, View, after_entered, base, Pair, both_of, cut_first, cut_second}
-use Rattle.cn_floor.proofs.InStates.Placed.{first-there, splits-at}
+use Rattle.cn_floor.proofs.InStates.Spreads.{first-there, splits-at}
 use Rattle.cn_floor.proofs.InStates.Sharing.{accounted-seen, cuts-in-two, sum-both}
 use Rattle.cn_floor.proofs.floor.counters.Counters.cut_in_two.Goals as goal
 

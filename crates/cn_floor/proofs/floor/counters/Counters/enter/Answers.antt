@@ -1,5 +1,5 @@
 use Rattle.cn_floor.proofs.Common.{◌≡◌, ℕ, ◌^◌, ◌%◌, ◌+◌, ◌-◌, [], length, refl, sym, ap, ◌∙◌, arith, FloorValue, PostValue, ComesIn}
-use Rattle.cn_floor.proofs.InStates.Placed.{at-word, there}
+use Rattle.cn_floor.proofs.InStates.Spreads.{at-word, there}
 use Rattle.cn_floor.proofs.InStates.Enters.{lets-in}
 use Rattle.cn_floor.proofs.InLane.Posts.{entered-wires, post-kept}
 use Rattle.cn_floor.proofs.floor.counters.Counters.enter.Goals as goal

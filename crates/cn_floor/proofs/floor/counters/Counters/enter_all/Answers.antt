@@ -1,6 +1,6 @@
 use Rattle.cn_floor.proofs.Common.{◌≡◌, ◌^◌, ◌%◌, ◌+◌, [], length, sym, ap, ◌∙◌, arith, FloorValue, PostValue, View, AllComeIn, EnteringAll}
-use Rattle.cn_floor.proofs.InStates.EntersAll.{lets-all-in}
-use Rattle.cn_floor.proofs.InStates.Placed.{at-word, there}
+use Rattle.cn_floor.proofs.InStates.Enters.{lets-all-in}
+use Rattle.cn_floor.proofs.InStates.Spreads.{at-word, there}
 use Rattle.cn_floor.proofs.InLane.Posts.{kept-by-all, post-kept}
 use Rattle.cn_floor.proofs.floor.counters.Counters.enter_all.Goals as goal
 

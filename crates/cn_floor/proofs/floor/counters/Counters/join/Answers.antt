@@ -1,5 +1,5 @@
 use Rattle.cn_floor.proofs.Common.{rules}
-use Rattle.cn_floor.proofs.InStates.Placed.{first-there, joins-at}
+use Rattle.cn_floor.proofs.InStates.Spreads.{first-there, joins-at}
 use Rattle.cn_floor.proofs.InStates.Sharing.{joins}
 use Rattle.cn_floor.proofs.floor.counters.Counters.join.Goals as goal
 

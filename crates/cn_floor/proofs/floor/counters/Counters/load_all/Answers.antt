@@ -1,6 +1,6 @@
 use Rattle.cn_floor.proofs.Common.{◌≡◌, ℕ, ◌+◌, ◌-◌, refl, sym, ap, ◌∙◌, subst, arith, FloorValue, IsAnswer, IsStart, View}
 use Rattle.cn_floor.proofs.InStates.Loading.{Loaded, loaded-next, loaded-none}
-use Rattle.cn_floor.proofs.InStates.Placed.{entries}
+use Rattle.cn_floor.proofs.InStates.Spreads.{entries}
 use Rattle.cn_floor.proofs.floor.counters.Counters.load_all.Goals as goal
 
 pub loop-entry-init : goal.loop-entry-init

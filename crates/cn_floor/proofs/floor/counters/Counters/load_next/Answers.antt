@@ -1,6 +1,6 @@
 use Rattle.cn_floor.proofs.Common.{◌≡◌, [], rules, arith, Loads}
 use Rattle.cn_floor.proofs.InStates.Loading.{loads}
-use Rattle.cn_floor.proofs.InStates.Placed.{at-word, there}
+use Rattle.cn_floor.proofs.InStates.Spreads.{at-word, there}
 use Rattle.cn_floor.proofs.floor.counters.Counters.load_next.Goals as goal
 
 pub load-requires : goal.load-requires

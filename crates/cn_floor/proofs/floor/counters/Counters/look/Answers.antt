@@ -1,5 +1,5 @@
 use Rattle.cn_floor.proofs.Common.{◌≡◌, ℕ, [], ◌*◌, rules, refl, arith, Looks}
-use Rattle.cn_floor.proofs.InStates.Placed.{at-word, first-there}
+use Rattle.cn_floor.proofs.InStates.Spreads.{at-word, first-there}
 use Rattle.cn_floor.proofs.InStates.Sharing.{looks}
 use Rattle.cn_floor.proofs.floor.counters.Counters.look.Goals as goal
 

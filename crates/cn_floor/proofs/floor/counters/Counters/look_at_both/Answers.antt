@@ -1,5 +1,5 @@
 use Rattle.cn_floor.proofs.Common.{◌≡◌, ℕ, ◌+◌, ◌-◌, ◌++◌, [], length, rules, sym, ap, ◌∙◌, subst, arith, IsAnswer, Start, StoodInState, View, Pair, both_of, cut_first, first_after, after_entered, after_look}
-use Rattle.cn_floor.proofs.InStates.Placed.{first-there, joins-at}
+use Rattle.cn_floor.proofs.InStates.Spreads.{first-there, joins-at}
 use Rattle.cn_floor.proofs.InStates.Sharing.{answers-both, names-distinct, takes-together}
 use Rattle.cn_floor.proofs.floor.counters.Counters.look_at_both.Goals as goal
 

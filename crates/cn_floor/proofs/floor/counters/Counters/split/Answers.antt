@@ -1,5 +1,5 @@
 use Rattle.cn_floor.proofs.Common.{rules, arith}
-use Rattle.cn_floor.proofs.InStates.Placed.{first-there, splits-at}
+use Rattle.cn_floor.proofs.InStates.Spreads.{first-there, splits-at}
 use Rattle.cn_floor.proofs.InStates.Sharing.{splits}
 use Rattle.cn_floor.proofs.floor.counters.Counters.split.Goals as goal
 

@@ -1,7 +1,7 @@
 use Rattle.cn_floor.proofs.Common.{◌≡◌, ℕ, ◌^◌, ◌%◌, ◌+◌, ◌*◌, [], length, sym, ap, ◌∙◌, arith, FloorValue, PostValue, GoesOn}
 use Rattle.cn_floor.proofs.InStates.Steps.{lets-on}
-use Rattle.cn_floor.proofs.InStates.Placed.{at-word, there}
-use Rattle.cn_floor.proofs.InStates.Raised.{end-there}
+use Rattle.cn_floor.proofs.InStates.Spreads.{at-word, there}
+use Rattle.cn_floor.proofs.InStates.Ledgers.{end-there}
 use Rattle.cn_floor.proofs.InLane.Posts.{post-kept}
 use Rattle.cn_floor.proofs.InLane.Swept.{kin}
 use Rattle.cn_floor.proofs.floor.counters.Counters.step.Goals as goal

@@ -1,6 +1,6 @@
 use Rattle.cn_floor.proofs.Common.{◌≡◌, ◌^◌, ◌%◌, ◌+◌, [], length, sym, ap, ◌∙◌, arith, FloorValue, PostValue, View, on, AllGoOn}
-use Rattle.cn_floor.proofs.InStates.Placed.{at-word, there}
-use Rattle.cn_floor.proofs.InStates.Raised.{end-there}
+use Rattle.cn_floor.proofs.InStates.Spreads.{at-word, there}
+use Rattle.cn_floor.proofs.InStates.Ledgers.{end-there}
 use Rattle.cn_floor.proofs.InStates.Sweeps.{all_go-on}
 use Rattle.cn_floor.proofs.InLane.Posts.{post-kept}
 use Rattle.cn_floor.proofs.InLane.Swept.{kin-by}
