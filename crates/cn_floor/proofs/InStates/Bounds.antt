@@ -1,6 +1,6 @@
 -- No count is more than the clients that came, and no name is one of an earlier floor. Where one lane has the whole
 -- quota, the next number is the count of its own.
-use Rattle.cn_floor.proofs.Common.{◌≡◌, ℕ, ◌+◌, ◌<◌, ◌≤◌, inl, inr, cond, [], length, sum_by, refl, subst, sym, ap, ◌∙◌, arith, End, Exit, HoldsAt, Stands, Start, State, Table, View, base, cases_lt, clients_in, count_in, end_word, entered_in, get_or, le-ltb, ledger_of, lt-ltb, name_of, once_below, sum-below-part, sum-below-same, sum_below, times, share, name-below, sum-below-plus, sum-below-total, times-below, counts-few, tight, zero, suc, ◌*◌, ◌&&◌, Bool, true, false, List, count_by, eqb, Balancer, Grant, eq-eqb, get_elem?, given_in, some, sum-below-one, sum-below-zero, count_by-le-length, Passage, own_count, once-in, levels}
+use Rattle.cn_floor.proofs.Common.{◌≡◌, ℕ, ◌+◌, ◌<◌, ◌≤◌, cond, [], length, sum_by, refl, subst, sym, ap, ◌∙◌, arith, End, Exit, HoldsAt, Stands, Start, State, Table, View, base, clients_in, count_in, end_word, entered_in, get_or, ledger_of, name_of, once_below, sum-below-part, sum-below-same, sum_below, times, share, name-below, sum-below-plus, sum-below-total, times-below, counts-few, tight, nat_tests, turned, zero, suc, ◌*◌, ◌&&◌, Bool, true, false, List, count_by, eqb, Balancer, Grant, eq-eqb, get_elem?, given_in, some, sum-below-one, sum-below-zero, count_by-le-length, Passage, own_count, once-in, levels}
 use Rattle.cn_spec.proofs.CallerLemmas.{sum-below-cut}
 use Rattle.cn_floor.proofs.InStates.Accounts.{no-levels}
 use Rattle.cn_floor.proofs.InStates.Totals.{mine-only, part-le, total_same, total-le}
@@ -71,15 +71,11 @@ module _ (start : Start) (s : State (Unit {0}) View) (kept : HoldsAt start s) wh
 
   -- nor is it less than the carried one
   pub count-risen : (end : End) → Stands t end → count_in t start.words end ≤ count_in t s.words end
-  count-risen end stands = elim (cases_lt (count_in t s.words end) (count_in t start.words end)) [
-    | inr l ↦ l
-    | inl l ↦
-        let n : ℕ = count_in t s.words end in
-        let there : ◌≡◌ {A = ℕ} (once_below (count_in t start.words end) n) 1 =
-        ap {B = ℕ} (λ b. cond b 1 0) (lt-ltb n (count_in t start.words end) l) in
-        let none : ◌≡◌ {A = ℕ} (once_below (count_in t s.words end) n) 0 = ap {B = ℕ} (λ b. cond b 1 0) (le-ltb n n (omega arith)) in
-        absurd (omega (arith, kept.rule.sound.numbered end n stands))
-  ]
+  count-risen end stands =
+      let n : ℕ = count_in t s.words end in
+      let given : once_below (count_in t start.words end) n + sum_by (given_in end n) s.views ≡ once_below n n =
+      kept.rule.sound.numbered end n stands in
+      grind (arith, nat_tests)
 
   -- the next name is none of the carried ones
   pub name-later : (i : ℕ) → i < t.width → base start ≤ name_of t.width i (count_in t s.words (Exit i))
@@ -88,11 +84,7 @@ module _ (start : Start) (s : State (Unit {0}) View) (kept : HoldsAt start s) wh
       let n : ℕ = count_in t s.words (Exit i) in
       let was = tight t net.formed net.counts (ledger_of t start.words start.words []) kept.began.carried.sound (λ u l. refl) in
       let shared : count_in t start.words (Exit i) ≡ share (base start) t.width i = was.counts i h in
-      elim (cases_lt (name_of t.width i n) (base start)) [
-        | inr l ↦ l
-        | inl l ↦ let below : n < share (base start) t.width i = (name-below (base start) t.width i n h).1 l in
-            absurd (omega (arith, count-risen (Exit i) h))
-      ]
+      turned _ _ _ _ (name-below (base start) t.width i n h).1 (omega (arith, count-risen (Exit i) h))
 
   pub names-late : (end : End) → Stands t end → (n : ℕ) → count_in t s.words end ≡ n → (i : ℕ) → end ≡ Exit i
       → base start ≤ name_of t.width i n

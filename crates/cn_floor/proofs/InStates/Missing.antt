@@ -1,5 +1,5 @@
 -- In each state as many names are missing as clients are inside.
-use Rattle.cn_floor.proofs.Common.{◌≡◌, ℕ, zero, suc, ◌+◌, ◌-◌, ◌/◌, ◌%◌, ◌<◌, ◌≤◌, ◌&&◌, inl, inr, cond, eqb, get_or, map, sym, refl, ap, ◌∙◌, arith, mod_below, Exit, Grant, IsStart, Ledger, Start, Table, View, base, cases_lt, count_in, get_elem?, given_in, le-ltb, lt-ltb, name_of, nat_tests, once_below, some, sum-below-same, sum-below-zero, times, share, sum_below, exit_of-name_of, name-below, name_of-exit_of, sum-by-same, times-map, times_given, missing, ledger_at, FloorState, KeepsRule}
+use Rattle.cn_floor.proofs.Common.{◌≡◌, ℕ, zero, suc, ◌+◌, ◌-◌, ◌/◌, ◌%◌, ◌<◌, ◌≤◌, ◌&&◌, cond, eqb, get_or, map, sym, refl, ap, ◌∙◌, arith, mod_below, Exit, Grant, IsStart, Ledger, Start, Table, View, base, count_in, get_elem?, given_in, le-ltb, name_of, nat_tests, once_below, some, sum-below-same, sum-below-zero, times, share, sum_below, exit_of-name_of, name-below, name_of-exit_of, sum-by-same, times-map, times_given, missing, once-there, turned, ledger_at, FloorState, KeepsRule}
 use Rattle.cn_floor.specs.Missing.{came_at, inside_at, names_missing_at, times_granted}
 use Rattle.cn_floor.proofs.AtClose.Ends.{tight-before}
 use Rattle.cn_floor.proofs.InStates.Bounds.{all-came}
@@ -58,10 +58,8 @@ module _ (start : Start) (began : IsStart start) (s : FloorState) (kept : KeepsR
     as-given =
         let low : at < t.width = mod_below (m + name) t.width wide in
         let was : count_in t start.words (Exit at) ≡ share m t.width at = (tight-before start began).counts at low in
-        let late : share m t.width at ≤ turn = elim (cases_lt turn (share m t.width at)) [
-          | inl less ↦ absurd (omega (arith, (name-below m t.width at turn low).0 less, name_of-exit_of t.width (m + name)))
-          | inr more ↦ more
-        ] in
+        let late : share m t.width at ≤ turn =
+        turned _ _ _ _ (name-below m t.width at turn low).0 (omega (arith, name_of-exit_of t.width (m + name))) in
         let none : ◌≡◌ {A = ℕ} (once_below (count_in t start.words (Exit at)) turn) 0 =
         ap {B = ℕ} (λ b. cond b 1 0) (le-ltb turn (count_in t start.words (Exit at)) (omega (arith, was, late))) in
         omega (
@@ -78,9 +76,7 @@ module _ (start : Start) (began : IsStart start) (s : FloorState) (kept : KeepsR
       (tight-before start began).counts (n % t.width) low in
       let is : name_of t.width (n % t.width) (n / t.width) < m = omega (arith, less, name_of-exit_of t.width n) in
       let early = (name-below m t.width (n % t.width) (n / t.width) low).1 is in
-      let one : ◌≡◌ {A = ℕ} (once_below (count_in t start.words (Exit (n % t.width))) (n / t.width)) 1 =
-      ap {B = ℕ} (λ b. cond b 1 0) (lt-ltb (n / t.width) (count_in t start.words (Exit (n % t.width))) (omega (arith, was, early))) in
-      omega (arith, one)
+      omega (arith, once-there (count_in t start.words (Exit (n % t.width))) (n / t.width) (omega (arith, was, early)))
 
   pub missing-at : names_missing_at start s ≡ inside_at start s
   missing-at =

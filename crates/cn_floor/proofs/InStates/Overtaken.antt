@@ -1,7 +1,7 @@
 -- On a counting network with two exits or more a client may come in after another has left, and get a lower name. One
 -- client stands before its exit while as many others as there are exits walk through, one after the other: the first of
 -- them gets a greater name than those that are free, and the last one the name for which the one that stands had come.
-use Rattle.cn_floor.proofs.Common.{◌≡◌, ◌≢◌, ℕ, zero, suc, ◌+◌, ◌-◌, ◌*◌, ◌%◌, ◌<◌, ◌≤◌, ◌&&◌, inl, inr, Bool, true, false, eqb, All, List, [], ◌∷◌, ◌++◌, length, refl, sym, ap, ◌∙◌, subst, arith, All-append, All-cons, All-nil, mul-le-mul_left, mod_below, Balancer, End, Exit, IsSound, IsWellFormed, LeadsOn, Ledger, Stands, Table, cases_eq, cases_lt, end_of, eq-eqb, name_of, ne_eqb, output_wire, sum-below-one, sum-below-same, when, share, name-below, sum-below-plus, Counts, one_at, IsQuiescent, ◌⊎◌, all_entered, entering, leaving-there, passing-there, sound-leaves, tight, KeepsRealTimeOrder, client_of, Enter, Event, GoesFrom, Happens, LeadsTo, Step}
+use Rattle.cn_floor.proofs.Common.{◌≡◌, ◌≢◌, ℕ, zero, suc, ◌+◌, ◌-◌, ◌*◌, ◌%◌, ◌<◌, ◌≤◌, ◌&&◌, inl, inr, Bool, true, false, eqb, All, List, [], ◌∷◌, ◌++◌, length, refl, sym, ap, ◌∙◌, subst, arith, All-append, All-cons, All-nil, mul-le-mul_left, mod_below, Balancer, End, Exit, IsSound, IsWellFormed, LeadsOn, Ledger, Stands, Table, cases_eq, end_of, eq-eqb, name_of, ne_eqb, output_wire, sum-below-one, sum-below-same, when, share, name-below, sum-below-plus, Counts, one_at, IsQuiescent, ◌⊎◌, all_entered, entering, leaving-there, passing-there, sound-leaves, tight, turned, KeepsRealTimeOrder, client_of, Enter, Event, GoesFrom, Happens, LeadsTo, Step}
 use Rattle.cn_floor.proofs.InStates.Histories.{led-none, led-on, led-grow, sound-led}
 
 never : (a : Bool) → (a && false) ≡ false
@@ -221,34 +221,30 @@ module _ (t : Table) (formed : IsWellFormed t) where
         walk-more (w - 2) (n + 1 + 1) 1 m waits-first (λ x. omega (arith, x)) in
         let (q, last) = walks 2 p in
         let waits-last = waits-on p q (n + 1 + 1 + (w - 2)) 2 waits-more last (λ x. omega (arith, x)) in
-        let spread : (a b : ℕ) → a * (b + 1) ≡ a * b + a = λ a b. omega arith in
         let here : ◌≡◌ {A = ℕ} (when (eqb e e) 1) 1 = rw (eq-eqb e e refl) refl in
         -- the one that stands has come for name n
         let s : ℕ = l.count (Exit e) in
         let was : begin.count (Exit e) ≡ share n w e = (tight t formed counts begin sound quiet).counts e narrow in
         let now = settled l (n + 1) waits e narrow in
         let below : name_of w e s < n + 1 = (name-below (n + 1) w e s narrow).0 (omega (arith, now, here)) in
-        let above : n ≤ name_of w e s = least n e s narrow (omega (arith, was, front.is.count e)) in
+        let above : n ≤ name_of w e s = turned _ _ _ _ (name-below n w e s narrow).1 (omega (arith, was, front.is.count e)) in
         -- the first gets a greater one
         let v : ℕ = l.count (Exit first.exit) in
         let other : first.exit ≢ e = λ same.
         let then = settled m (n + 1 + 1) waits-first e narrow in
         let gone : ◌≡◌ {A = ℕ} (when (eqb e first.exit) 1) 1 = rw (eq-eqb e first.exit (sym same)) refl in
-        let over : name_of w e (s + 1) < n + 1 + 1 =
-        (name-below (n + 1 + 1) w e (s + 1) narrow).0 (omega (arith, then, here, gone, first.count e)) in
-        omega (arith, over, above, spread w s, wide) in
+        let over = (name-below (n + 1 + 1) w e (s + 1) narrow).0 (omega (arith, then, here, gone, first.count e)) in
+        omega (arith, over, above, wide) in
         let away : ◌≡◌ {A = ℕ} (when (eqb first.exit e) 1) 0 = ap {B = ℕ} (λ b. when b 1) (ne_eqb first.exit e other) in
         let higher : n + 1 ≤ name_of w first.exit v =
-        least (n + 1) first.exit v first.inside
+        turned _ _ _ _ (name-below (n + 1) w first.exit v first.inside).1
         (omega (arith, settled l (n + 1) waits first.exit first.inside, away)) in
         -- the last one gets name n
-        let stays : ◌≡◌ {A = ℕ} (when (eqb e first.exit) 1) 0 = ap {B = ℕ} (λ b. when b 1) (ne_eqb e first.exit (λ x. other (sym x))) in
-        let most = settled p (n + 1 + 1 + (w - 2)) waits-more e narrow in
-        let full : share (n + 1 + 1 + (w - 2)) w e ≤ s + 1 = fewest (n + 1 + 1 + (w - 2)) e (s + 1) narrow
-        (omega (arith, above, spread w s, wide)) in
-        let next = settled q (n + 1 + 1 + (w - 2) + 1) waits-last e narrow in
-        let more : s + 1 < share (n + 1 + 1 + (w - 2) + 1) w e = (name-below (n + 1 + 1 + (w - 2) + 1) w e (s + 1) narrow).1
-        (omega (arith, below, spread w s, wide)) in
+        let many : ℕ = n + 1 + 1 + (w - 2) in
+        let most = settled p many waits-more e narrow in
+        let full : share many w e ≤ s + 1 = turned _ _ _ _ (name-below many w e (s + 1) narrow).0 (omega (arith, above, wide)) in
+        let next = settled q (many + 1) waits-last e narrow in
+        let more : s + 1 < share (many + 1) w e = (name-below (many + 1) w e (s + 1) narrow).1 (omega (arith, below, wide)) in
         let by : last.exit ≡ e = elim (cases_eq e last.exit) [
           | inl same ↦ sym same
           | inr differ ↦
@@ -259,7 +255,8 @@ module _ (t : Table) (formed : IsWellFormed t) where
         let name : ℕ = name_of w last.exit turn in
         let few : p.count (Exit e) ≤ s = omega (arith, most, full, here) in
         let same : name ≡ name_of w e (p.count (Exit e)) = λ i. name_of w (by i) (p.count (Exit (by i))) in
-        let small : name ≤ n = omega (arith, same, grows w few, below) in
+        let times : w * p.count (Exit e) ≤ w * s = mul-le-mul_left w few in
+        let small : name ≤ n = omega (arith, same, times, below) in
         let grow = led-grow t history m p leads in
         let before : List Event = first.history ++ front.is.history in
         let after : List Event = last.history ++ history in
@@ -275,19 +272,3 @@ module _ (t : Table) (formed : IsWellFormed t) where
               (λ k d h x. omega (arith, x, first.own k d h)) (λ k d h x. omega (arith, x, front.is.own k d h)))
               (omega (arith, last.gets, grow.kept 2 last.exit turn name)),
         ))
-      where
-        grows : (w : ℕ) → {a b : ℕ} → a ≤ b → w * a ≤ w * b
-        grows w h = mul-le-mul_left w h
-
-        -- a visit that is no longer below the share has a name that is not below the number
-        least : (k i v : ℕ) → i < t.width → share k t.width i ≤ v → k ≤ name_of t.width i v
-        least k i v h few = elim (cases_lt (name_of t.width i v) k) [
-          | inl l ↦ absurd (omega (arith, few, (name-below k t.width i v h).1 l))
-          | inr l ↦ l
-        ]
-
-        fewest : (k i v : ℕ) → i < t.width → k ≤ name_of t.width i v → share k t.width i ≤ v
-        fewest k i v h high = elim (cases_lt v (share k t.width i)) [
-          | inl l ↦ absurd (omega (arith, high, (name-below k t.width i v h).0 l))
-          | inr l ↦ l
-        ]

@@ -163,10 +163,9 @@ module _ (v w : View) (long : length w.tokens ≡ length v.tokens) where
   levels-both g =
       let n : ℕ = length v.tokens in
       let wires : length tokens ≡ n = length-map-range_with_len (λ x. on v.tokens x ++ on w.tokens x) 0 n in
-      let spread : (k a b : ℕ) → k * (a + b) ≡ k * a + k * b = λ k a b. omega arith in
       ap (λ (k : ℕ). sum_below k (λ u. g u * on_in u (both_of v w))) wires
       ∙ sum-below-same n (λ u. g u * on_in u (both_of v w)) (λ u. g u * on_in u v + g u * on_in u w)
-      (λ u l. ap (λ (k : ℕ). g u * k) (each-joined v w tokens weigh-both 0 (Wire u)) ∙ spread (g u) (on_in u v) (on_in u w))
+      (λ u l. omega (arith, ap (λ (k : ℕ). g u * k) (each-joined v w tokens weigh-both 0 (Wire u))))
       ∙ sum-below-plus n (λ u. g u * on_in u v) (λ u. g u * on_in u w)
       ∙ ap (λ (k : ℕ). sum_below n (λ u. g u * on_in u v) + sum_below k (λ u. g u * on_in u w)) (sym long)
 

@@ -1,5 +1,5 @@
 -- The rule is kept where a token goes on.
-use Rattle.cn_floor.proofs.Common.{◌≡◌, ℕ, ◌+◌, ◌-◌, ◌%◌, ◌^◌, ◌<◌, ◌≤◌, true, cond, List, [], length, get_or, set, sym, refl, ap, ◌∙◌, arith, subst, length-set, Allows, Balancer, End, Exit, Grant, HoldsAt, IsAccounted, IsFresh, IsSound, IsThere, Ledger, Me, Stands, Start, State, Table, View, after_step, base, clients_in, count_in, end_of, end_word, entered_in, eq-eqb, get_elem?, keeps, ledger_of, load_bound, lt-ltb, name_of, once_below, output_wire, some, times, All-push, is_end, IsMoveOf, GoesFrom, Step, Going, GoesOn, answer_at, bounded}
+use Rattle.cn_floor.proofs.Common.{◌≡◌, ℕ, ◌+◌, ◌-◌, ◌%◌, ◌^◌, ◌<◌, ◌≤◌, true, cond, List, [], length, get_or, set, sym, refl, ap, ◌∙◌, arith, subst, length-set, Allows, Balancer, End, Exit, Grant, HoldsAt, IsAccounted, IsFresh, IsSound, IsThere, Ledger, Me, Stands, Start, State, Table, View, after_step, base, clients_in, count_in, end_of, end_word, entered_in, eq-eqb, get_elem?, keeps, ledger_of, load_bound, name_of, once-there, once_below, output_wire, some, times, All-push, is_end, IsMoveOf, GoesFrom, Step, Going, GoesOn, answer_at, bounded}
 use Rattle.cn_floor.proofs.InStates.Accounts.{accounted-after_step}
 use Rattle.cn_floor.proofs.InStates.Kept.{Adds, adds-step}
 use Rattle.cn_floor.proofs.InStates.Bounds.{end-few, name-later, names-late, sole}
@@ -87,8 +87,7 @@ module _ (start : Start) (id token client wire : ℕ) (end : End) (v : View) (s 
       count-raised t s.words kept.rule.words end end stands ∙ ap (λ b. n + cond b 1 0) (end-self end) in
       let there_at : count_in t next.words (Exit i) ≡ n + 1 = ap (λ (e : End). count_in t next.words e) (sym q) ∙ risen in
       let given : now.given (Exit i) n ≡ once_below (count_in t next.words (Exit i)) n = sound-now.numbered (Exit i) n low in
-      let one : ◌≡◌ {A = ℕ} (once_below (count_in t next.words (Exit i)) n) 1 =
-      ap {B = ℕ} (λ b. cond b 1 0) (lt-ltb n (count_in t next.words (Exit i)) (omega arith)) in
+      let one = once-there (count_in t next.words (Exit i)) n (omega arith) in
       (bounded t net.formed net.counts now sound-now).visits i n low (omega arith)
 
   fresh-after_step : v.loads ≡ [] → (e : End) → e ≡ end → IsFresh start next.words (after_step token client e n v)
