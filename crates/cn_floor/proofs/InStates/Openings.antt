@@ -1,13 +1,9 @@
 -- A floor at the start.
-use Rattle.cn_floor.proofs.Common.{◌≡◌, ℕ, zero, suc, ◌+◌, ◌&&◌, Bool, true, false, cond, eqb, ltb, List, [], ◌∷◌, length, get_or, sum_by, replicate, refl, ap, ◌∙◌, arith, subst, Balancer, End, Exit, HoldsAt, IsAccounted, IsFresh, IsSound, IsStart, Network, Start, Table, View, base, clients_in, count_in, end_word, entered_in, le-ltb, ledger_of, length-replicate, name_of, on_in, once_below, sum-below-zero, sum_by-cons, tokens_in, when, word_count, opening, LeadsTo, IsCarried, empty_view, times-nil, zero_at, IsNothing, sound-nothing}
+use Rattle.cn_floor.proofs.Common.{◌≡◌, ℕ, zero, suc, ◌+◌, nat_tests, List, [], ◌∷◌, length, get_or, sum_by, replicate, refl, ap, arith, subst, Balancer, End, Exit, HoldsAt, IsAccounted, IsFresh, IsSound, IsStart, Network, Start, Table, View, base, clients_in, count_in, end_word, entered_in, ledger_of, length-replicate, on_in, sum-below-zero, sum_by-cons, tokens_in, word_count, opening, LeadsTo, IsCarried, empty_view, times-nil, zero_at, IsNothing, sound-nothing}
 use Rattle.cn_floor.proofs.InStates.Fresh.{fresh-idle}
 use Rattle.cn_floor.proofs.InStates.Kept.{Measure, each-joined, ledger-alike, weight}
 use Rattle.cn_floor.proofs.InStates.Totals.{each-one}
 use Rattle.cn_floor.proofs.InStates.Accounts.{no-levels}
-
-nothing : (b : Bool) → ◌≡◌ {A = ℕ} (when b 0) 0
-nothing true = refl
-nothing false = refl
 
 -- ---- words that are all 0
 
@@ -16,19 +12,11 @@ module _ (t : Table) where
   zeros = replicate (word_count t) 0
 
   pub none-entered : (u : ℕ) → entered_in t zeros u ≡ 0
-  none-entered u = ap (λ (k : ℕ). when (ltb u t.entries) k) (zero_at (word_count t) (1 + u)) ∙ nothing (ltb u t.entries)
+  none-entered u = let none = zero_at (word_count t) (1 + u) in grind (arith, nat_tests)
 
   pub none-counted : (end : End) → count_in t zeros end ≡ 0
-  none-counted (Balancer b) = ap (λ (k : ℕ). when (ltb b t.balancers) k) (zero_at (word_count t) (end_word t (Balancer b)))
-      ∙ nothing (ltb b t.balancers)
-  none-counted (Exit i) = ap (λ (k : ℕ). when (ltb i t.width) k) (zero_at (word_count t) (end_word t (Exit i))) ∙ nothing (ltb i t.width)
-
-  none-below : (n : ℕ) → ◌≡◌ {A = ℕ} (once_below 0 n) 0
-  none-below n = ap {B = ℕ} (λ b. cond b 1 0) (le-ltb n 0 (omega arith))
-
-  not-granted : (p q : Bool) → ◌≡◌ {A = ℕ} (when (p && (false && q)) 1) 0
-  not-granted true q = refl
-  not-granted false q = refl
+  none-counted (Balancer b) = let none = zero_at (word_count t) (end_word t (Balancer b)) in grind (arith, nat_tests)
+  none-counted (Exit i) = let none = zero_at (word_count t) (end_word t (Exit i)) in grind (arith, nat_tests)
 
   nobody : IsNothing (ledger_of t zeros zeros [])
   nobody = record {
@@ -36,14 +24,8 @@ module _ (t : Table) where
     count = none-counted;
     on = λ u. refl;
     standing = λ u c. refl;
-    given = λ end n. omega (arith, ap (λ (k : ℕ). once_below k n) (none-counted end), none-below n);
-    granted = λ c i v name.
-        let none : ltb v (count_in t zeros (Exit i)) ≡ false =
-        le-ltb v (count_in t zeros (Exit i)) (omega (arith, none-counted (Exit i))) in
-        let one : when (eqb 0 c && (ltb v (count_in t zeros (Exit i)) && eqb (name_of t.width i v) name)) 1 ≡ 0 =
-        ap {B = ℕ} (λ b. when (eqb 0 c && (b && eqb (name_of t.width i v) name)) 1) none
-        ∙ not-granted (eqb 0 c) (eqb (name_of t.width i v) name) in
-        omega arith;
+    given = λ end n. let none = none-counted end in grind (arith, nat_tests);
+    granted = λ c i v name. let none = none-counted (Exit i) in grind (arith, nat_tests);
   }
 
   -- words that are all 0 may be carried, and nobody came

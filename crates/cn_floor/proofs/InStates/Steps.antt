@@ -12,6 +12,12 @@ pub end-self : (end : End) → is_end end end ≡ true
 end-self (Balancer b) = eq-eqb b b refl
 end-self (Exit i) = eq-eqb i i refl
 
+-- what a step keeps of a view
+pub step-keeps : (token client : ℕ) (end : End) (n : ℕ) (v : View) → let w : View = after_step token client end n v in
+    (w.quota ≡ v.quota) × (w.entries ≡ v.entries) × (w.loads ≡ v.loads)
+step-keeps token client (Balancer b) n v = (refl, refl, refl)
+step-keeps token client (Exit i) n v = (refl, refl, refl)
+
 -- so it is answered
 moved-by : (start : Start) (old new : Ledger) (c u : ℕ) (end : End) (n : ℕ) → old.count end ≡ n
     → GoesFrom start.network.table old new c u end
@@ -71,10 +77,6 @@ module _ (start : Start) (id token client wire : ℕ) (end : End) (v : View) (s 
   sound-now : IsSound t now
   sound-now = sound-goes t kept.began.network.formed end was now client wire went kept.rule.sound
 
-  quota-same : (e : End) (m : ℕ) → ((after_step token client e m v).quota ≡ v.quota) × ((after_step token client e m v).entries ≡ v.entries)
-  quota-same (Balancer b) m = (refl, refl)
-  quota-same (Exit i) m = (refl, refl)
-
   risen-not : (u : ℕ) → entered_in t s.words u ≤ entered_in t next.words u
   risen-not u = omega (arith, entered-kept t s.words kept.rule.words end stands u)
 
@@ -96,11 +98,8 @@ module _ (start : Start) (id token client wire : ℕ) (end : End) (v : View) (s 
       record { low = f.low; own = f.own; seen = f.seen; names = f.names }
   fresh-after_step idle (Exit i) q =
       let f = fresh-grown start s.words next.words v risen-not (kept.rule.fresh id v here) in
-      let low : i < t.width = subst (Stands t) (sym q) stands in
-      let all : load_bound t next.words v.loads ≡ clients_in t next.words = ap (λ (ls : List ℕ). load_bound t next.words ls) idle in
-      let later : base start ≤ name_of t.width i (count_in t s.words (Exit i)) = name-later start s kept i low in
-      let same : count_in t s.words (Exit i) ≡ n = ap (λ (e : End). count_in t s.words e) q in
-      let named : base start ≤ name_of t.width i n = subst (λ (k : ℕ). base start ≤ name_of t.width i k) same later in
+      let all : load_bound t next.words v.loads ≡ clients_in t next.words = ap (load_bound t next.words) idle in
+      let named = names-late start s kept end stands n refl i (sym q) in
       let name : name_of v.start.network.table.width i n - base v.start ≡ name_of t.width i n - base start =
       ap (λ (z : Start). name_of z.network.table.width i n - base z) of in
       record {
@@ -122,7 +121,7 @@ module _ (start : Start) (id token client wire : ℕ) (end : End) (v : View) (s 
       reached = reached-by start (Step client wire) was now kept.rule.reached (subst (GoesFrom t was now client wire) (sym ends) went);
       entered = λ u l.
           let more = total-set (λ (x : View). times u x.entries) s.views id v then here in
-          let same : times u then.entries ≡ times u v.entries = ap (λ (es : List ℕ). times u es) (quota-same end n).1 in
+          let same : times u then.entries ≡ times u v.entries = ap (λ (es : List ℕ). times u es) (step-keeps token client end n v).1 in
           omega (arith, entered-kept t s.words kept.rule.words end stands u, kept.rule.entered u l);
       accounted = each-set (IsAccounted start.network) s.views id then kept.rule.accounted
           (accounted-after_step start.network token client wire n v is there (ap (λ (z : Start). z.network) of) end ends
@@ -131,8 +130,8 @@ module _ (start : Start) (id token client wire : ℕ) (end : End) (v : View) (s 
           (λ i x e. fresh-grown start s.words next.words x risen-not (kept.rule.fresh i x e)) (fresh-after_step idle end refl);
       quotas =
           let more = total-set (λ (x : View). x.quota + length x.entries) s.views id v then here in
-          let same : length then.entries ≡ length v.entries = ap (λ (es : List ℕ). length es) (quota-same end n).1 in
-          omega (arith, (quota-same end n).0, kept.rule.quotas);
+          let same : length then.entries ≡ length v.entries = ap (λ (es : List ℕ). length es) (step-keeps token client end n v).1 in
+          omega (arith, (step-keeps token client end n v).0, kept.rule.quotas);
     };
   }
 

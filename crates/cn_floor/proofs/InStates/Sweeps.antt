@@ -4,7 +4,7 @@ use Rattle.cn_floor.proofs.Lists.{lists-after-on, lists_after}
 use Rattle.cn_floor.proofs.InStates.Kept.{Adds, added, added-more, added-none, adds-counted, adds-step}
 use Rattle.cn_floor.proofs.InStates.Bounds.{end-few, names-late, sole}
 use Rattle.cn_floor.proofs.InStates.Ledgers.{count-raised, count-word, end-there}
-use Rattle.cn_floor.proofs.InStates.Steps.{adds-step-on, end-self}
+use Rattle.cn_floor.proofs.InStates.Steps.{adds-step-on, end-self, step-keeps}
 use Rattle.cn_floor.proofs.InStates.Totals.{get-here}
 
 -- ---- the tokens of a wire, one after the other
@@ -71,14 +71,6 @@ module _ (start : Start) (wire : ℕ) (end : End) (formed : IsWellFormed start.n
       by (Balancer b) is = gone-on b n is v token client rest may
       by (Exit i) is = gone-out i n v token client rest may
 
-  -- a view that loads nothing goes on to load nothing
-  still-idle : (n token client : ℕ) (v : View) → v.loads ≡ [] → (after_step token client end n v).loads ≡ []
-  still-idle n token client v idle = by end
-    where
-      by : (e : End) → (after_step token client e n v).loads ≡ []
-      by (Balancer b) = idle
-      by (Exit i) = idle
-
   module _ (id : ℕ) where
     -- these tokens go by one after the other
     all-after-steps : (tokens : List (ℕ × ℕ)) (s : FloorState) (v : View) (n : ℕ) → HoldsAt start s
@@ -98,7 +90,7 @@ module _ (start : Start) (wire : ℕ) (end : End) (formed : IsWellFormed start.n
         count-raised t s.words kept.rule.words end end stands ∙ ap (λ b. count_in t s.words end + cond b 1 0) (end-self end)
         ∙ ap (λ (k : ℕ). k + 1) count in
         let later = all-after-steps rest next then (n + 1) one.kept (get-here s.views id v then here) (rest-may n v token client rest may)
-        (still-idle n token client v idle) more in
+        ((step-keeps token client end n v).2 ∙ idle) more in
         let same = added-more s id word (length rest) then (after_steps end (n + 1) rest then)
         (omega (arith, kept.rule.words, end-there t end stands)) in
         record {

@@ -60,22 +60,6 @@ cut_in_two-other-requires-clause-pair g c =
     ∙ (λ i. after_entered start entered (both_of ((c.look.ensures.looks.0 ∙ sym c.requires.pair.0) i)
     ((c.look-2.ensures.looks.0 ∙ sym c.requires.pair.1) i)))
 
-pub cut_in_two-other-requires-clause-wires : goal.cut_in_two-other-requires-clause-wires
-cut_in_two-other-requires-clause-wires g c =
-    ap (λ (x : View). length x.tokens) c.requires.pair.1 ∙ c.requires.wires ∙ sym (ap (λ (x : View). length x.tokens) c.requires.pair.0)
-
-pub cut_in_two-other-requires-clause-idle : goal.cut_in_two-other-requires-clause-idle
-cut_in_two-other-requires-clause-idle g c =
-    (ap (λ (x : View). x.loads) c.requires.pair.0 ∙ c.requires.slots.1, ap (λ (x : View). x.loads) c.requires.pair.1 ∙ c.requires.slots.3)
-
-pub cut_in_two-other-requires-clause-first : goal.cut_in_two-other-requires-clause-first
-cut_in_two-other-requires-clause-first g c =
-    subst (λ (x : View). StoodInState c.args.self.now.start x) (c.look.ensures.looks.0 ∙ sym c.requires.pair.0) c.look.ensures.looks.1
-
-pub cut_in_two-other-requires-clause-second : goal.cut_in_two-other-requires-clause-second
-cut_in_two-other-requires-clause-second g c =
-    subst (λ (x : View). StoodInState c.args.self.now.start x) (c.look-2.ensures.looks.0 ∙ sym c.requires.pair.1) c.look-2.ensures.looks.1
-
 pub returns-clause-first : goal.returns-clause-first
 returns-clause-first g c =
     let start : Start = c.args.self.now.start in

@@ -25,14 +25,6 @@ fetch_add-requires g c =
           (was.wires ∙ ap (λ (f : FloorValue). length f.start.network.table.ends) home) c.requires.ends c.requires.stands),
     )
 
-pub place_of-place-requires-clause-stride : goal.place_of-place-requires-clause-stride
-place_of-place-requires-clause-stride g c =
-    omega (
-      arith,
-      c.requires.stride ∙ ap (λ (h : FloorValue). h.start.stride) (sym c.self.view_is) ∙ c.self.invariant.apart,
-      c.self.invariant.stride,
-    )
-
 pub invariant_of-post : goal.invariant_of-post
 invariant_of-post g c =
     let go = g.T.StepOf.going in
