@@ -6,12 +6,10 @@ pub use Rattle.cn_floor.proofs.InLane.Swept.{IsKin, grants-kept, grants-left, ki
 pub use Rattle.cn_floor.proofs.InLane.Named.{names-low, state-after}
 pub use Rattle.cn_floor.proofs.InLane.Outs.{grants-many, grants-next}
 -- what a lane may do, and what it did
-pub use Rattle.cn_floor.proofs.InStates.Sweeps.{MayGo, goes-there, lists-after-on, rest-may}
-pub use Rattle.cn_floor.proofs.InStates.Ledgers.{Lands}
-pub use Rattle.cn_floor.proofs.InStates.Accounts.{at-none, at-one, weighed-went}
-pub use Rattle.cn_floor.proofs.InStates.Raised.{count-word}
-pub use Rattle.cn_floor.proofs.InStates.Walked.{no-levels}
-pub use Rattle.cn_floor.proofs.Lists.{made_at, made-beyond, ones, weigh-come, weigh-leave, weigh-pass}
+pub use Rattle.cn_floor.proofs.InStates.Sweeps.{MayGo, goes-there, rest-may}
+pub use Rattle.cn_floor.proofs.InStates.Ledgers.{Lands, count-word}
+pub use Rattle.cn_floor.proofs.InStates.Accounts.{at-none, at-one, weighed-went, no-levels}
+pub use Rattle.cn_floor.proofs.Lists.{lists-after-on, made_at, made-beyond, ones, weigh-come, weigh-leave, weigh-pass}
 -- a floor that nobody entered
 pub use Rattle.cn_floor.proofs.InStates.Openings.{none-came, none-counted, none-entered}
 -- a closed floor

@@ -10,7 +10,7 @@ pub use mathlib.Core.Option.{some, some-injective, some-ne-none}
 pub use Rattle.atomic_table.proofs.Lists.{at_set, at_snoc, set_else}
 pub use Rattle.atomic_table.specs.Table.{Act, Allows, Final, Joins, Me, Seen, Splits, State, Valid, carried_after, keeps, opening, stepped}
 pub use Rattle.cn_ledger.specs.Ledger.{IsQuiescent, IsSound, IsTight, Ledger, all_entered, put, times_given}
-pub use Rattle.cn_spec.proofs.CallerLemmas.{at_most_once, exit_of-name_of, name-below, name_of-exit_of, once-in, once_each, one_more-at, sum-below-fewer, sum-below-front, sum-below-le, sum-below-next, sum-below-none, sum-below-one, sum-below-part, sum-below-plus, sum-below-same, sum-below-shift, sum-below-total, sum-below-zero, sum-by-same, times-append, times-below, times-map, times-member, times-nil, times-place, times-two, total-where-agree, zero_at}
+pub use Rattle.cn_spec.proofs.CallerLemmas.{at_most_once, exit_of-name_of, name-below, name_of-exit_of, once-in, once-there, once_each, one_more-at, sum-below-fewer, sum-below-front, sum-below-le, sum-below-next, sum-below-none, sum-below-one, sum-below-part, sum-below-plus, sum-below-same, sum-below-shift, sum-below-total, sum-below-zero, sum-by-same, times-append, times-below, times-map, times-member, times-nil, times-place, times-two, total-where-agree, zero_at}
 pub use Rattle.cn_spec.specs.Step.{IsEachBelow, name_of, share}
 pub use Rattle.cn_spec.specs.Sums.{once_below, when}
 unfoldable pub use Rattle.cn_spec.specs.Sums.{sum_below, times}
@@ -67,6 +67,10 @@ pub use Rattle.std.proofs.Math.Seq.{get_or-append_seam, take-append_seam}
 pub use Rattle.cn_ledger.specs.declared.moved.Moved.TheVariants.{On, Out}
 pub use Rattle.std.proofs.lemmas.Bool.Decides.{nat_tests}
 pub use Rattle.cn_floor.specs.Consistent.{IsQuiescentlyConsistent, KeepsRealTimeOrder, client_of}
+
+-- what follows from an order, turned
+pub turned : (a b c d : ℕ) → (a < b → c < d) → d ≤ c → b ≤ a
+turned a b c d less h = elim (cases_lt a b) [ inl l ↦ absurd (omega (arith, h, less l)) | inr l ↦ l ]
 
 -- how many tokens on wire u are client c
 abbrev pub standing_in : ℕ → ℕ → View → ℕ

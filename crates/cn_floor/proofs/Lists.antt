@@ -29,6 +29,10 @@ module _ (lists : List (List (ℕ × ℕ))) (make : ℕ → List (ℕ × ℕ)) w
   made-beyond u l = get_or_past (map make (range_with_len 0 (length lists))) u []
       (omega (arith, length-map-range_with_len make 0 (length lists)))
 
+  -- where nothing is made beyond the wires
+  pub made-on : ((u : ℕ) → length lists ≤ u → make u ≡ []) → (u : ℕ) → get_or (map make (range_with_len 0 (length lists))) u [] ≡ make u
+  made-on beyond u = elim (cases_lt u (length lists)) [ inl l ↦ made_at u l | inr l ↦ made-beyond u l ∙ sym (beyond u l) ]
+
   -- the lists of another yard are these where they are so on each wire
   pub made : (news : List (List (ℕ × ℕ))) → length news ≡ length lists → ((u : ℕ) → get_or news u [] ≡ make u)
       → news ≡ map make (range_with_len 0 (length lists))
@@ -40,48 +44,39 @@ pub weigh-come : (lists : List (List (ℕ × ℕ))) (token client wire : ℕ) �
     → sum_by f (get_or (map (λ x. get_or lists x [] ++ last_on token client wire x) (range_with_len 0 (length lists))) u [])
     ≡ sum_by f (get_or lists u []) + when (eqb wire u) (f (token, client))
 weigh-come lists token client wire inside u f =
-    let make : ℕ → List (ℕ × ℕ) = λ x. get_or lists x [] ++ last_on token client wire x in
-    elim (cases_lt u (length lists)) [
-      | inl l ↦ ap (λ es. sum_by f es) (made_at lists make u l) ∙ sum_by-append f (get_or lists u []) (last_on token client wire u)
-          ∙ omega (arith, last_on-sum token client wire u f)
-      | inr l ↦ rw (made-beyond lists make u l, get_or_past lists u [] l, ne_eqb wire u (λ e. omega arith)) refl
-    ]
+    ap (sum_by f) (made-on lists (λ x. get_or lists x [] ++ last_on token client wire x)
+    (λ x past. rw (get_or_past lists x [] past, ne_eqb wire x (λ e. omega (arith, e, past, inside))) refl) u)
+    ∙ sum_by-append f (get_or lists u []) (last_on token client wire u) ∙ omega (arith, last_on-sum token client wire u f)
 
 -- the lists, from which a token is taken, and to which `more` is added at each wire
 abbrev pub lists_after : ℕ → (ℕ → List (ℕ × ℕ)) → List (List (ℕ × ℕ)) → List (List (ℕ × ℕ))
 lists_after token more lists = map (λ u. without token (get_or lists u []) ++ more u) (range_with_len 0 (length lists))
+
+module _ (lists : List (List (ℕ × ℕ))) (token : ℕ) (more : ℕ → List (ℕ × ℕ)) (beyond : (u : ℕ) → length lists ≤ u → more u ≡ []) where
+  pub lists-after-on : (u : ℕ) → get_or (lists_after token more lists) u [] ≡ without token (get_or lists u []) ++ more u
+  lists-after-on = made-on lists (λ u. without token (get_or lists u []) ++ more u)
+      (λ u past. rw (get_or_past lists u [] past, beyond u past) refl)
+
+  -- however the tokens are weighed
+  weigh-after : (client wire : ℕ) → IsThere lists token client wire → (u : ℕ) (f : ℕ × ℕ → ℕ)
+      → sum_by f (get_or (lists_after token more lists) u []) + when (eqb wire u) (f (token, client))
+      ≡ sum_by f (get_or lists u []) + sum_by f (more u)
+  weigh-after client wire is u f =
+      omega (arith, ap (sum_by f) (lists-after-on u), sum_by-append f (without token (get_or lists u [])) (more u), is.less u f)
 
 -- who goes to a wire, which is among these, leaves the other
 pub weigh-pass : (lists : List (List (ℕ × ℕ))) (token client wire to : ℕ) → IsThere lists token client wire → to < length lists
     → (u : ℕ) (f : ℕ × ℕ → ℕ)
     → sum_by f (get_or (lists_after token (last_on token client to) lists) u []) + when (eqb wire u) (f (token, client))
     ≡ sum_by f (get_or lists u []) + when (eqb to u) (f (token, client))
-weigh-pass lists token client wire to is inside u f =
-    let make : ℕ → List (ℕ × ℕ) = λ x. without token (get_or lists x []) ++ last_on token client to x in
-    elim (cases_lt u (length lists)) [
-      | inl l ↦
-          let at : sum_by f (get_or (map make (range_with_len 0 (length lists))) u []) ≡ sum_by f (make u) =
-          ap (λ es. sum_by f es) (made_at lists make u l) in
-          let parts = sum_by-append f (without token (get_or lists u [])) (last_on token client to u) in
-          omega (arith, last_on-sum token client to u f, is.less u f)
-      | inr l ↦ rw (
-        made-beyond lists make u l,
-        get_or_past lists u [] l,
-        ne_eqb wire u (λ e. omega (arith, is.inside)),
-        ne_eqb to u (λ e. omega arith),
-      ) refl
-    ]
+weigh-pass lists token client wire to is inside u f = omega (
+  arith,
+  weigh-after lists token (last_on token client to) (λ x past. rw (ne_eqb to x (λ e. omega (arith, e, past, inside))) refl)
+      client wire is u f,
+  last_on-sum token client to u f,
+)
 
 -- who leaves is on no wire
 pub weigh-leave : (lists : List (List (ℕ × ℕ))) (token client wire : ℕ) → IsThere lists token client wire → (u : ℕ) (f : ℕ × ℕ → ℕ)
     → sum_by f (get_or (lists_after token (λ _. []) lists) u []) + when (eqb wire u) (f (token, client)) ≡ sum_by f (get_or lists u [])
-weigh-leave lists token client wire is u f =
-    let make : ℕ → List (ℕ × ℕ) = λ x. without token (get_or lists x []) ++ [] in
-    elim (cases_lt u (length lists)) [
-      | inl l ↦
-          let at : sum_by f (get_or (map make (range_with_len 0 (length lists))) u []) ≡ sum_by f (make u) =
-          ap (λ es. sum_by f es) (made_at lists make u l) in
-          let parts = sum_by-append f (without token (get_or lists u [])) [] in
-          omega (arith, is.less u f)
-      | inr l ↦ rw (made-beyond lists make u l, get_or_past lists u [] l, ne_eqb wire u (λ e. omega (arith, is.inside))) refl
-    ]
+weigh-leave lists token client wire is u f = omega (arith, weigh-after lists token (λ _. []) (λ _ _. refl) client wire is u f)

@@ -1,11 +1,10 @@
 -- A lane whose grants number all that entered did all that was done.
 use Rattle.cn_floor.proofs.Common.{◌≡◌, ℕ, zero, suc, ◌+◌, ◌≤◌, ◌<◌, ◌&&◌, cond, eqb, ltb, List, [], ◌∷◌, length, get_or, sum_by, count_by, sym, refl, ap, ◌∙◌, subst, arith, ◌-◌, map, End, Exit, Grant, HoldsAt, IsSound, Ledger, Stands, Start, State, View, Yard, base, clients_in, count_in, entered_in, eq-eqb, get_elem?, given_in, granted_in, ledger_of, name_of, on_in, once_below, some, standing_in, sum_below, sum_by-cons, times, tokens_in, when, some-injective, some-ne-none, count_by-le-length, get_or-le-sum_by, Final, Seen, range_with_len, IsEachBelow, share, names-each, IsTight, IsEnding, IsClosedFloor, NobodyInside, counts_by_exit, times-nil, nobody-on}
 use Rattle.cn_ledger.specs.Grants.{Grant as Listed, ListsGrants, is_grant}
-use Rattle.cn_floor.proofs.InStates.Bounds.{all-came, few-came}
+use Rattle.cn_floor.proofs.InStates.Bounds.{all-came, few-came, none_given}
 use Rattle.cn_floor.proofs.AtClose.Ends.{carried-after, tight-after, tight-before}
 use Rattle.cn_floor.proofs.InStates.Fresh.{load-bound-few}
-use Rattle.cn_floor.proofs.InStates.Sole.{none_given}
-use Rattle.cn_floor.proofs.InStates.Raised.{count-word}
+use Rattle.cn_floor.proofs.InStates.Ledgers.{count-word}
 use Rattle.cn_floor.proofs.InStates.Totals.{mine-only, part-le}
 
 -- at a place of a list

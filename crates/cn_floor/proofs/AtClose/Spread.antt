@@ -2,8 +2,7 @@
 use Rattle.cn_floor.proofs.Common.{◌≡◌, ℕ, List, sym, ap, ◌∙◌, subst, Final, Seen, View, spread, start_of, IsEnding, IsCounters, picked}
 use Rattle.cn_floor.specs.declared.floor.counters.Counters.TheInside.{Inside}
 use Rattle.cn_floor.proofs.AtClose.Closings.{ending-at}
-use Rattle.cn_floor.proofs.InStates.Placed.{Rule}
-use Rattle.cn_floor.proofs.InStates.Spreads.{picked-spread}
+use Rattle.cn_floor.proofs.InStates.Spreads.{Rule, picked-spread}
 
 module _ (c : Inside) (is : IsCounters c) {id : ℕ} {v : View} {spaced : List ℕ} (xs : List (Unit {0}))
     (end : Final (Seen (Rule c is) id v) spaced xs) where

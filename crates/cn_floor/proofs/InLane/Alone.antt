@@ -1,6 +1,6 @@
 -- The only token of a view, on its way.
 use Rattle.cn_floor.proofs.Common.{◌≡◌, ◌≢◌, ℕ, ◌%◌, ◌<◌, ◌≤◌, inl, inr, cond, eqb, List, [], ◌∷◌, ◌++◌, length, sum_by, refl, sym, ap, ◌∙◌, subst, arith, nat_eq, Balancer, IsAlone, IsLetBy, IsThere, IsWellFormed, Lists, Stands, Start, Table, View, after_step, cases_eq, end_of, eq-eqb, last_on, length-map-range_with_len, ne_eqb, on, output_wire, sum-below-one, sum-below-same, times_in, when, without, mod_below, first-there, last_on-sum, OnlyPassed, PassesOn, nat_tests}
-use Rattle.cn_floor.proofs.InStates.Sweeps.{lists-after-on}
+use Rattle.cn_floor.proofs.Lists.{lists-after-on}
 
 -- on its wire stands only the token
 pub on-own : (token client wire : ℕ) → last_on token client wire wire ≡ (token, client) ∷ []

@@ -4,7 +4,7 @@ use Rattle.cn_floor.proofs.Lists.{made_at, made-beyond}
 use Rattle.cn_floor.proofs.AtClose.Rises.{all-empty}
 use Rattle.cn_floor.proofs.InStates.Bounds.{few-came}
 use Rattle.cn_floor.proofs.InStates.Fresh.{load-bound-few}
-use Rattle.cn_floor.proofs.InStates.Sweeps.{lists-after-on}
+use Rattle.cn_floor.proofs.Lists.{lists-after-on}
 use Rattle.cn_floor.proofs.InLane.Alone.{nobody-else, off-own, passed-more, passed-on}
 use Rattle.cn_floor.proofs.InLane.Depths.{walked-steps}
 use Rattle.cn_floor.proofs.InLane.Yards.{nobody-there}

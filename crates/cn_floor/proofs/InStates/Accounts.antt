@@ -1,14 +1,8 @@
--- Each view accounts for its clients, also after a step.
-use Rattle.cn_floor.proofs.Common.{◌≡◌, ℕ, ◌+◌, ◌-◌, ◌*◌, ◌%◌, ◌<◌, inl, inr, eqb, [], ◌∷◌, ◌++◌, length, get_or, ap, ◌∙◌, arith, Balancer, End, Exit, Grant, IsAccounted, IsThere, Network, View, after_enter, after_step, base, cases_eq, end_of, eq-eqb, last_on, length-map-range_with_len, length_push, name_of, ne_eqb, on, on_in, output_wire, sum-below-one, sum-below-same, sum-below-zero, sum_below, when, without, All-push, one_at, sum-below-shift}
+-- Each view accounts for its clients, also after a step, and for how many steps they took.
+use Rattle.cn_floor.proofs.Common.{◌≡◌, ℕ, ◌+◌, ◌*◌, ◌%◌, ◌<◌, nat_tests, eqb, [], ◌++◌, length, get_or, ap, ◌∙◌, arith, Balancer, End, Exit, IsAccounted, IsThere, Network, View, after_enter, after_step, end_of, last_on, length-map-range_with_len, length-append, length_push, levels_in, on, on_in, output_wire, sum-below-one, sum-below-same, sum-below-zero, sum_below, tokens_in, when, without, All-push, one_at, sum-below-shift, refl, Start, sum-below-part, IsNetwork, levels, TakesItsSteps}
 use Rattle.cn_floor.proofs.InStates.Ledgers.{on-after-enter, on-after_step, onto, Lands}
 
 -- ---- sums over wires, each counted g times
-
-spread : (k a b : ℕ) → k * (a + b) ≡ k * a + k * b
-spread k a b = omega arith
-
-weighed : (k a b c d : ℕ) → a + b ≡ c + d → k * a + k * b ≡ k * c + k * d
-weighed k a b c d h = omega (arith, spread k a b, spread k c d, ap (λ (x : ℕ). k * x) h)
 
 -- one wire
 pub at-one : (n w : ℕ) (g : ℕ → ℕ) → w < n → sum_below n (λ u. g u * one_at w u) ≡ g w
@@ -16,21 +10,21 @@ at-one n w g h =
     sum-below-same n (λ u. g u * one_at w u) (λ u. when (eqb w u) (g w)) (λ u l. each u) ∙ sum-below-one n w (g w) h
   where
     each : (u : ℕ) → g u * one_at w u ≡ when (eqb w u) (g w)
-    each u = elim (cases_eq w u) [ inl e ↦ rw (eq-eqb w u e, e) (omega arith) | inr d ↦ rw (ne_eqb w u d) (omega arith) ]
+    each u = grind (arith, nat_tests)
 
 -- the wires' sums rise as their counts do
 pub weighed-on : (n : ℕ) (g : ℕ → ℕ) (old new from to : ℕ → ℕ) → ((u : ℕ) → new u + from u ≡ old u + to u)
     → sum_below n (λ u. g u * new u) + sum_below n (λ u. g u * from u) ≡ sum_below n (λ u. g u * old u) + sum_below n (λ u. g u * to u)
 weighed-on n g old new from to h =
     sum-below-shift n (λ u. g u * new u) (λ u. g u * from u) (λ u. g u * old u) (λ u. g u * to u)
-    (λ u l. weighed (g u) (new u) (from u) (old u) (to u) (h u))
+    (λ u l. omega (arith, ap (λ (k : ℕ). g u * k) (h u)))
 
 -- a sum of nothing
 pub at-none : (n : ℕ) (g : ℕ → ℕ) → sum_below n (λ u. g u * 0) ≡ 0
 at-none n g = sum-below-zero n (λ u. g u * 0) (λ u. omega arith)
 
-once : (n : ℕ) (f : ℕ → ℕ) → sum_below n (λ u. 1 * f u) ≡ sum_below n f
-once n f = sum-below-same n (λ u. 1 * f u) f (λ u l. omega arith)
+pub levels-one : (v : View) → tokens_in v.tokens ≡ levels_in (λ _. 1) v
+levels-one v = sum-below-same (length v.tokens) (λ u. on_in u v) (λ u. 1 * on_in u v) (λ u l. omega arith)
 
 -- ---- who comes in
 
@@ -57,8 +51,8 @@ module _ (network : Network) (token client entry : ℕ) (v : View) (low : entry 
         account.all,
         length_push v.entries entry,
         weighed-came (λ _. 1),
-        once (length came.tokens) (λ u. on_in u came),
-        once (length v.tokens) (λ u. on_in u v),
+        levels-one came,
+        levels-one v,
       );
       entries = All-push (λ (u : ℕ). u < network.table.entries) v.entries entry account.entries low;
       walked = λ level is. omega (arith, account.walked level is, weighed-came level, is.entry entry low);
@@ -98,8 +92,8 @@ module _ (network : Network) (token client wire n : ℕ) (v : View) (is : IsTher
           account.all,
           weighed-went (λ _. 1) (Balancer b) lands,
           at-one m out (λ _. 1) lands,
-          once (length (went (Balancer b)).tokens) (λ u. on_in u (went (Balancer b))),
-          once m (λ u. on_in u v),
+          levels-one (went (Balancer b)),
+          levels-one v,
         );
         entries = account.entries;
         walked = λ level lv.
@@ -113,23 +107,36 @@ module _ (network : Network) (token client wire n : ℕ) (v : View) (is : IsTher
               length_push v.passages (record { balancer = b; number = n }),
             );
       }
-  accounted-after_step (Exit i) ends lands account =
-      let m : ℕ = length v.tokens in
-      let g : Grant = record { client = client; exit = i; visit = n; name = name_of v.start.network.table.width i n - base v.start } in
-      record {
-        all = omega (
-          arith,
-          account.all,
-          weighed-went (λ _. 1) (Exit i) lands,
-          at-none m (λ _. 1),
-          once (length (went (Exit i)).tokens) (λ u. on_in u (went (Exit i))),
-          once m (λ u. on_in u v),
-          length_push v.grants g,
-        );
-        entries = account.entries;
-        walked = λ level lv.
-            let last : level wire ≡ network.depth = lv.exit wire i there ends in
-            let more : network.depth * length (v.grants ++ g ∷ []) ≡ network.depth * (length v.grants + 1) =
-            ap (λ (k : ℕ). network.depth * k) (length_push v.grants g) in
-            omega (arith, account.walked level lv, weighed-went level (Exit i) lands, at-none m level);
-      }
+  accounted-after_step (Exit i) ends lands account = record {
+    all = simp length-append (omega (
+      arith,
+      account.all,
+      weighed-went (λ _. 1) (Exit i) lands,
+      at-none (length v.tokens) (λ _. 1),
+      levels-one (went (Exit i)),
+      levels-one v,
+    ));
+    entries = account.entries;
+    walked = λ level lv. simp length-append (omega (
+      arith,
+      account.walked level lv,
+      weighed-went level (Exit i) lands,
+      at-none (length v.tokens) level,
+      lv.exit wire i there ends,
+    ));
+  }
+
+-- How many steps the tokens of a lane have taken.
+
+-- where nobody is inside, there are no levels to add up
+pub no-levels : (level : ℕ → ℕ) (v : View) → tokens_in v.tokens ≡ 0 → levels_in level v ≡ 0
+no-levels level v none =
+    sum-below-same (length v.tokens) (λ u. level u * on_in u v) (λ _. 0) (λ u l.
+    let z : on_in u v ≡ 0 = omega (arith, sum-below-part (length v.tokens) u (λ x. on_in x v) l, none) in
+    ap (λ (x : ℕ). level u * x) z ∙ omega arith)
+    ∙ sum-below-zero (length v.tokens) (λ _. 0) (λ _. refl)
+
+pub takes-steps : (start : Start) (v : View) → IsNetwork start.network → IsAccounted start.network v → TakesItsSteps start v
+takes-steps start v net account none =
+    let (level, is) = levels start.network.table net.formed start.network.depth net.deep in
+    omega (arith, account.all, account.walked level is, no-levels level v none)

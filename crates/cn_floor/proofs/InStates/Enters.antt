@@ -1,13 +1,12 @@
--- The rule is kept where a client comes in.
-use Rattle.cn_floor.proofs.Common.{◌≡◌, ℕ, ◌+◌, ◌%◌, ◌^◌, ◌<◌, ◌≤◌, List, [], ◌∷◌, ◌++◌, length, get_or, set, sym, refl, ap, ◌∙◌, arith, subst, ⊎_elim, length-set, Allows, HoldsAt, IsAccounted, IsAtomicStep, IsFresh, Me, Start, State, View, after_enter, at_set, base, clients_in, entered_in, get_elem?, keeps, ledger_of, length_push, load_bound, some, sum-below-one, sum-below-part, sum-below-same, stepped, times, Enters, one_at, Enter, Coming, ComesIn, sum-below-plus, times-append, times-nil, sound-enters}
-use Rattle.cn_floor.proofs.InStates.Bounds.{few-came}
+-- The rule is kept where a client comes in, and where those of a list do by one step.
+use Rattle.cn_floor.proofs.Common.{◌≡◌, ℕ, ◌+◌, ◌%◌, ◌^◌, ◌<◌, ◌≤◌, List, [], ◌∷◌, ◌++◌, length, get_or, set, refl, ap, ◌∙◌, arith, length-set, Allows, HoldsAt, IsAccounted, IsFresh, Me, Start, State, View, after_enter, base, clients_in, entered_in, get_elem?, keeps, ledger_of, length_push, load_bound, some, sum-below-one, sum-below-same, times, Enters, one_at, Enter, Coming, ComesIn, sum-below-plus, times-append, times-nil, sound-enters, zero, suc, subst, slice_index, Table, last_on, ledger_at, length-map-range_with_len, on, AllComeIn, EnterInTurn, EnteringAll, FloorState, after_enter_all, after_enters}
 use Rattle.cn_floor.proofs.InStates.Accounts.{accounted-after-enter}
-use Rattle.cn_floor.proofs.InStates.Fresh.{fresh-grown, names_below}
-use Rattle.cn_floor.proofs.InStates.Kept.{one-step}
-use Rattle.cn_floor.proofs.InStates.Ledgers.{enters}
-use Rattle.cn_floor.proofs.InStates.Reached.{reached-by}
-use Rattle.cn_floor.proofs.InStates.Totals.{total-set}
-use Rattle.cn_floor.proofs.InStates.Raised.{entered-raised, entered-word, lanes-raised, raised}
+use Rattle.cn_floor.proofs.InStates.Kept.{Adds, adds-step, added, added-more, added-none, adds-counted}
+use Rattle.cn_floor.proofs.InStates.Bounds.{entry-few}
+use Rattle.cn_floor.proofs.InStates.Fresh.{fresh-grown, fresh-idle, names_below}
+use Rattle.cn_floor.proofs.InStates.Ledgers.{enters, entered-raised, lanes-raised, raised}
+use Rattle.cn_floor.proofs.InStates.Histories.{reached-by}
+use Rattle.cn_floor.proofs.InStates.Totals.{each-set, total-set, get-here}
 
 -- one entry more
 times-last : (u e : ℕ) (es : List ℕ) → times u (es ++ e ∷ []) ≡ times u es + one_at e u
@@ -23,7 +22,7 @@ module _ (start : Start) (id token client entry : ℕ) (v : View) (s : State (Un
   abbrev after : State (Unit {0}) View
   after = record { words = raised s.words (1 + entry); homes = s.homes; views = set s.views id w }
 
-  pub came_in : Enters start.network.table (ledger_of start.network.table start.words s.words s.views)
+  came_in : Enters start.network.table (ledger_of start.network.table start.words s.words s.views)
       (ledger_of start.network.table start.words after.words after.views) client entry
   came_in = enters start s.words s.views id v kept.rule.words here of token client entry low inside
 
@@ -41,17 +40,12 @@ module _ (start : Start) (id token client entry : ℕ) (v : View) (s : State (Un
   fresh-after-enter idle =
       let t = start.network.table in
       let f = kept.rule.fresh id v here in
-      let was : load_bound t s.words v.loads ≡ clients_in t s.words = ap (λ (ls : List ℕ). load_bound t s.words ls) idle in
-      let now : load_bound t after.words v.loads ≡ clients_in t after.words = ap (λ (ls : List ℕ). load_bound t after.words ls) idle in
-      record {
-        low = λ u. omega (arith, f.low u, risen u);
-        own = omega (arith, f.own, one_more-came, length_push v.entries entry);
-        seen = omega (arith, f.seen, one_more-came);
-        names = names_below v.grants (base start) (load_bound t s.words v.loads) (load_bound t after.words v.loads)
-            (omega (arith, one_more-came)) f.names;
-      }
+      let was : load_bound t s.words v.loads ≡ clients_in t s.words = ap (load_bound t s.words) idle in
+      fresh-idle start after.words w idle (omega (arith, f.own, one_more-came, length_push v.entries entry))
+      (omega (arith, f.seen, one_more-came))
+      (names_below v.grants (base start) (load_bound t s.words v.loads) (clients_in t after.words) (omega (arith, one_more-came)) f.names)
 
-  pub kept-after-enter : v.loads ≡ [] → HoldsAt start after
+  kept-after-enter : v.loads ≡ [] → HoldsAt start after
   kept-after-enter idle = record {
     began = kept.began;
     rule = record {
@@ -69,65 +63,80 @@ module _ (start : Start) (id token client entry : ℕ) (v : View) (s : State (Un
             kept.rule.entered u l,
             times-last u entry v.entries,
           );
-      accounted = λ i x e. ⊎_elim
-          (λ y. subst (λ (z : View). IsAccounted start.network z) y.1
-          (accounted-after-enter start.network token client entry v low inside (kept.rule.accounted id v here)))
-          (λ y. kept.rule.accounted i x y.1)
-          (at_set s.views id i w x e);
-      fresh = λ i x e. ⊎_elim
-          (λ y. subst (λ (z : View). IsFresh start after.words z) y.1 (fresh-after-enter idle))
-          (λ y. fresh-grown start s.words after.words x risen (kept.rule.fresh i x y.1))
-          (at_set s.views id i w x e);
+      accounted = each-set (IsAccounted start.network) s.views id w kept.rule.accounted
+          (accounted-after-enter start.network token client entry v low inside (kept.rule.accounted id v here));
+      fresh = each-set (IsFresh start after.words) s.views id w
+          (λ i x e. fresh-grown start s.words after.words x risen (kept.rule.fresh i x e)) (fresh-after-enter idle);
       quotas =
           let more = total-set (λ (x : View). x.quota + length x.entries) s.views id v w here in
           omega (arith, length_push v.entries entry, kept.rule.quotas);
     };
   }
 
-  pub step-after-enter : v.loads ≡ [] → IsAtomicStep start v w (λ old new. Enters start.network.table old new client entry)
-  step-after-enter idle =
-      one-step start s after.words id v w (λ old new. Enters start.network.table old new client entry) here kept.rule
-      (kept-after-enter idle).rule came_in
+  pub adds-enter : v.loads ≡ [] → Adds start s id (1 + entry) 1 w (λ l m. Enters start.network.table l m client entry)
+  adds-enter idle = record { kept = kept-after-enter idle; happened = came_in }
 
 -- a client may come in
-pub lets-in : (start : Start) (slots id : ℕ) (me : Me (Unit {0}) View) (is : Coming) → is.start ≡ start → me.1 ≡ [] → me.0.loads ≡ []
-    → me.0.start ≡ start → is.entry < start.network.table.entries
-    → is.entry < length me.0.tokens → 0 < me.0.quota
-    → Allows (HoldsAt start) slots id me (1 + is.entry) (λ n. (n + 1) % 2 ^ 64) (λ n new. (new.1 ≡ []) × ComesIn is me.0 new.0)
-lets-in start slots id me is same no_slot idle of low inside some_quota s kept homes at fits =
-    let v : View = me.0 in
-    let n : ℕ = get_or s.words (1 + is.entry) 0 in
-    let w : View = after_enter is.token is.client is.entry v in
-    let few : n ≤ base start + start.quota =
-    omega (
-      arith,
-      entered-word start.network.table s.words is.entry low,
-      sum-below-part start.network.table.entries is.entry (entered_in start.network.table s.words) low,
-      few-came start s kept,
-    ) in
-    let bound = kept.began.quota in
-    let carried = kept.began.few in
-    let no_wrap : n + 1 ≡ (n + 1) % 18446744073709551616 = omega arith in (
-      w,
-      keeps,
-      tt,
-      subst (λ (x : ℕ). HoldsAt start (stepped s (1 + is.entry) x id me.1 w keeps)) no_wrap
-          (kept-after-enter start id is.token is.client is.entry v s kept at of low inside some_quota idle),
-      (
-        no_slot,
-        (
-          refl,
-          subst (λ (z : Start). IsAtomicStep z v w (λ old new. Enters z.network.table old new is.client is.entry)) (sym same)
-              (step-after-enter start id is.token is.client is.entry v s kept at of low inside some_quota idle),
-        ),
-      ),
-    )
-
--- the same, with the word and the steps' marks as different places
-pub lets-in-by : (start : Start) (slots id : ℕ) (me : Me (Unit {0}) View) (is : Coming) (entry : ℕ) → is.entry ≡ entry → is.start ≡ start
-    → me.1 ≡ [] → me.0.loads ≡ [] → me.0.start ≡ start → entry < start.network.table.entries
-    → entry < length me.0.tokens → 0 < me.0.quota
+pub lets-in : (start : Start) (slots id : ℕ) (me : Me (Unit {0}) View) (is : Coming) (token client entry : ℕ)
+    → is ≡ record { start = start; token = token; client = client; entry = entry } → me.1 ≡ [] → me.0.loads ≡ []
+    → me.0.start ≡ start → entry < start.network.table.entries → length me.0.tokens ≡ length start.network.table.ends → 0 < me.0.quota
     → Allows (HoldsAt start) slots id me (1 + entry) (λ n. (n + 1) % 2 ^ 64) (λ n new. (new.1 ≡ []) × ComesIn is me.0 new.0)
-lets-in-by start slots id me is entry by same no_slot idle of low inside some_quota =
-    subst (λ (e : ℕ). Allows (HoldsAt start) slots id me (1 + e) (λ n. (n + 1) % 2 ^ 64) (λ n new. (new.1 ≡ []) × ComesIn is me.0 new.0)) by
-    (lets-in start slots id me is same no_slot idle of (omega arith) (omega arith) some_quota)
+lets-in start slots id me is token client entry by no_slot idle of low wires some_quota = rw by (λ s kept homes here fits.
+    let inside : entry < length me.0.tokens = omega (arith, wires, kept.began.network.formed.wires, low) in
+    let w : View = after_enter token client entry me.0 in
+    let all = adds-step start s id (1 + entry) 1 me.0 (λ l m. Enters start.network.table l m client entry) here w kept
+    (omega (arith, kept.rule.words, low)) (λ r k. entry-few start r k entry low)
+    (adds-enter start id token client entry me.0 s kept here of low inside some_quota idle) in
+    (w, keeps, tt, all.kept, (no_slot, (refl, all.step))))
+
+-- The rule is kept where clients of a list come in by one step.
+
+-- one after the other
+module _ (start : Start) (id entry : ℕ) (clients : List ℕ) (low : entry < start.network.table.entries) where
+  abbrev t : Table
+  t = start.network.table
+
+  -- so many of them come in, from a place on
+  all-enter : (n place : ℕ) (s : FloorState) (v : View) → HoldsAt start s → get_elem? s.views id ≡ some v → v.start ≡ start
+      → entry < length v.tokens → n ≤ v.quota → v.loads ≡ []
+      → Adds start s id (1 + entry) n (after_enters clients entry place n v) (EnterInTurn t clients entry place n)
+  unfolding after_enters EnterInTurn
+  all-enter zero place s v kept here of inside enough idle =
+      let same = added-none s id (1 + entry) v here in
+      record { kept = subst (HoldsAt start) same kept; happened = ap (ledger_at start) same }
+  all-enter (suc n) place s v kept here of inside enough idle =
+      let client : ℕ = slice_index clients place in
+      let then : View = after_enter place client entry v in
+      let one = adds-enter start id place client entry v s kept here of low inside (omega (arith, enough)) idle in
+      let next : FloorState = added s id (1 + entry) 1 then in
+      let long : length then.tokens ≡ length v.tokens =
+      length-map-range_with_len (λ u. on v.tokens u ++ last_on place client entry u) 0 (length v.tokens) in
+      let later = all-enter n (suc place) next then one.kept (get-here s.views id v then here) of (omega (arith, inside, long))
+      (omega (arith, enough)) idle in
+      let same = added-more s id (1 + entry) n then (after_enters clients entry (suc place) n then) (omega (arith, kept.rule.words, low)) in
+      record {
+        kept = subst (HoldsAt start) same later.kept;
+        happened = (
+          ledger_at start next,
+          one.happened,
+          subst (λ (r : FloorState). EnterInTurn t clients entry (suc place) n (ledger_at start next) (ledger_at start r)) same
+              later.happened,
+        );
+      }
+
+-- all may come in, by one add of their number
+pub lets-all-in : (start : Start) (slots id : ℕ) (me : Me (Unit {0}) View) (is : EnteringAll) (clients : List ℕ) (entry count : ℕ)
+    → is ≡ record { start = start; clients = clients; entry = entry }
+    → me.1 ≡ [] → me.0.loads ≡ [] → me.0.start ≡ start → entry < start.network.table.entries → length me.0.tokens ≡ length start.network.table.ends
+    → count ≤ me.0.quota → length clients ≡ count
+    → Allows (HoldsAt start) slots id me (1 + entry) (λ n. (n + count) % 2 ^ 64) (λ n new. (new.1 ≡ []) × AllComeIn is me.0 new.0)
+lets-all-in start slots id me is clients entry count by no_slot idle of low wires enough many = rw (by, ← many) (λ s kept homes here fits.
+    let inside : entry < length me.0.tokens = omega (arith, wires, kept.began.network.formed.wires, low) in
+    let n : ℕ = length clients in
+    let w : View = after_enter_all clients entry me.0 in
+    let event = EnterInTurn start.network.table clients entry 0 n in
+    let all = adds-step start s id (1 + entry) n me.0 event here w kept (omega (arith, kept.rule.words, low))
+    (λ r k. entry-few start r k entry low)
+    (adds-counted start s id (1 + entry) n me.0 event here (after_enters clients entry 0 n me.0) (me.0.steps + 1)
+    (all-enter start id entry clients low n 0 s me.0 kept here of inside (omega (arith, enough, many)) idle)) in
+    (w, keeps, tt, all.kept, (no_slot, (refl, all.step))))

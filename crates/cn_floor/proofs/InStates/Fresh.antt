@@ -1,5 +1,5 @@
 -- What lanes load from the words of the entries.
-use Rattle.cn_floor.proofs.Common.{◌≡◌, ℕ, zero, suc, ◌+◌, ◌≤◌, ◌<◌, Bool, true, false, eqb, List, [], ◌∷◌, ◌++◌, length, get_or, sum, All, sym, refl, ap, ◌∙◌, arith, eqb-true, Grant, IsFresh, Start, Table, View, base, clients_in, entered_in, length_push, load_bound, sum-below-same, sum_by-cons, sum_below, after_load, after_load_by, sum-below-fewer, sum-below-front, sum-below-le}
+use Rattle.cn_floor.proofs.Common.{◌≡◌, ℕ, zero, suc, ◌+◌, ◌≤◌, ◌<◌, Bool, true, false, eqb, List, [], ◌∷◌, ◌++◌, length, get_or, sum, All, sym, refl, ap, ◌∙◌, arith, eqb-true, Grant, IsFresh, Start, Table, View, base, clients_in, entered_in, length_push, load_bound, IsLoad, sum-below-same, sum_by-cons, sum_below, after_load, after_load_by, sum-below-fewer, sum-below-front, sum-below-le}
 
 at_more : (ls : List ℕ) (u : ℕ) (g : ℕ → ℕ) → get_or (ls ++ g (length ls) ∷ []) u (g u) ≡ get_or ls u (g u)
 at_more [] zero g = refl
@@ -71,6 +71,21 @@ fresh-grown start words more v up fresh =
       names = names_below v.grants (base start) (load_bound t words v.loads) (load_bound t more v.loads) grown fresh.names;
     }
 
+-- a lane that has loaded nothing
+pub fresh-idle : (start : Start) (words : List ℕ) (v : View) → v.loads ≡ []
+    → base start + length v.entries ≤ clients_in start.network.table words → base start + v.seen ≤ clients_in start.network.table words
+    → All (λ (g : Grant). base start + g.name < clients_in start.network.table words) v.grants → IsFresh start words v
+fresh-idle start words v idle own seen names =
+    let all : load_bound start.network.table words v.loads ≡ clients_in start.network.table words =
+    ap (load_bound start.network.table words) idle in
+    record {
+      low = λ u. omega (arith, ap (λ (ls : List ℕ). get_or ls u 0) idle);
+      own = omega (arith, own, all);
+      seen = omega (arith, seen, all);
+      names = names_below v.grants (base start) (clients_in start.network.table words) (load_bound start.network.table words v.loads)
+          (omega (arith, all)) names;
+    }
+
 module _ (start : Start) (words : List ℕ) (v : View) (fresh : IsFresh start words v) where
   abbrev t : Table
   t = start.network.table
@@ -78,22 +93,23 @@ module _ (start : Start) (words : List ℕ) (v : View) (fresh : IsFresh start wo
   abbrev ls : List ℕ
   ls = v.loads ++ entered_in t words (length v.loads) ∷ []
 
+  low : (u : ℕ) → get_or ls u 0 ≤ entered_in t words u
+  low = low-more v.loads (entered_in t words) fresh.low
+
+  size : length ls ≡ length v.loads + 1
+  size = length_push v.loads (entered_in t words (length v.loads))
+
   fresh-by : (b : Bool) → (b ≡ true → length v.loads + 1 ≡ t.entries) → IsFresh start words (after_load_by b start ls v)
   fresh-by true at_last =
-      let same : load_bound t words ls ≡ load_bound t words v.loads = load-bound-more t words v.loads in
-      let all : load_bound t words ls ≡ sum ls =
-      load-bound-all t words ls (omega (arith, at_last refl, length_push v.loads (entered_in t words (length v.loads)))) in
-      let few : load_bound t words ls ≤ clients_in t words = load-bound-few t words ls (low-more v.loads (entered_in t words) fresh.low) in
-      record {
-        low = λ u. omega arith;
-        own = omega (arith, fresh.own);
-        seen = omega (arith, fresh.own);
-        names = names_below v.grants (base start) (load_bound t words v.loads) (clients_in t words) (omega arith) fresh.names;
-      }
+      let same = load-bound-more t words v.loads in
+      let few = load-bound-few t words ls low in
+      fresh-idle start words (after_load_by true start ls v) refl (omega (arith, fresh.own))
+      (omega (arith, fresh.own, load-bound-all t words ls (omega (arith, size, at_last refl))))
+      (names_below v.grants (base start) (load_bound t words v.loads) (clients_in t words) (omega arith) fresh.names)
   fresh-by false at_last =
       let same : load_bound t words ls ≡ load_bound t words v.loads = load-bound-more t words v.loads in
       record {
-        low = low-more v.loads (entered_in t words) fresh.low;
+        low = low;
         own = omega (arith, fresh.own);
         seen = omega (arith, fresh.seen);
         names = names_below v.grants (base start) (load_bound t words v.loads) (load_bound t words ls) (omega arith) fresh.names;
@@ -102,3 +118,23 @@ module _ (start : Start) (words : List ℕ) (v : View) (fresh : IsFresh start wo
   -- a load keeps what is known, whatever it finds
   pub fresh-load : IsFresh start words (after_load start (entered_in t words (length v.loads)) v)
   fresh-load = fresh-by (eqb (length v.loads + 1) t.entries) (λ e. eqb-true (length v.loads + 1) t.entries e)
+
+  -- and the last one gives an answer
+  pub load-says : length v.loads < t.entries → clients_in t words ≤ base start + start.quota
+      → IsLoad start v (entered_in t words (length v.loads))
+  load-says less within =
+      let same = load-bound-more t words v.loads in
+      let few = load-bound-few t words ls low in
+      record {
+        few = omega (arith, sum-few t words ls (omega (arith, size)));
+        last = λ e.
+            let all = load-bound-all t words ls (omega (arith, size)) in (
+              omega (arith, fresh.own),
+              record {
+                own = omega (arith, fresh.own);
+                seen = omega (arith, fresh.seen);
+                names = λ j d l. let g = fresh.names j d l in omega (arith, g);
+                quota = omega arith;
+              },
+            );
+      }

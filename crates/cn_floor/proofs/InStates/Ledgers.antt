@@ -1,8 +1,72 @@
--- Each step of a lane is one event on the floor's ledger.
-use Rattle.cn_floor.proofs.Common.{◌≡◌, ℕ, ◌+◌, ◌-◌, ◌%◌, ◌<◌, ◌≤◌, ◌&&◌, Bool, true, false, cond, eqb, List, [], length, get_or, set, sym, refl, ap, ◌∙◌, arith, subst, Balancer, End, Exit, Grant, IsThere, Ledger, Stands, Start, Table, View, after_enter, after_step, base, count_in, end_of, end_word, get_elem?, given_in, granted_in, ledger_of, name_of, on_in, output_wire, some, standing_in, when, word_count, nat_tests, sum_by_push, is_end, Enters, Goes, Leaves, Passes, one_at, Passage}
+-- The words of a floor, where one of them rises, and its ledger, on which that is one event.
+use Rattle.cn_floor.proofs.Common.{◌≡◌, ◌≢◌, ℕ, zero, suc, ◌+◌, ◌<◌, ◌≤◌, cond, eqb, ltb, List, [], ◌∷◌, length, get_or, set, refl, ap, ◌∙◌, arith, Balancer, End, Exit, Stands, Table, count_in, end_word, entered_in, lt-ltb, when, word_count, nat_tests, is_end, one_at, one_more-at, ◌*◌, ◌-◌, ◌%◌, ◌&&◌, on, sum_by, sym, subst, Grant, IsThere, Ledger, Start, View, after_enter, after_step, base, end_of, get_elem?, given_in, granted_in, ledger_of, name_of, on_in, output_wire, some, standing_in, sum_by_push, Enters, Goes, Leaves, Passes, Passage}
 use Rattle.cn_floor.proofs.Lists.{ones, weigh-come, weigh-leave, weigh-pass}
 use Rattle.cn_floor.proofs.InStates.Totals.{total-set}
-use Rattle.cn_floor.proofs.InStates.Raised.{count-kept, count-raised, entered-kept, entered-raised, raised}
+
+-- The words of a floor, where one of them rises.
+
+pub end-there : (t : Table) (end : End) → Stands t end → end_word t end < word_count t
+end-there t (Balancer b) h = omega arith
+end-there t (Exit i) h = omega arith
+
+-- the words, of which that at place i is one more
+abbrev pub raised : List ℕ → ℕ → List ℕ
+raised words i = set words i (get_or words i 0 + 1)
+
+-- the lanes' word is no other
+pub lanes-raised : (words : List ℕ) (i : ℕ) → 1 ≤ i → get_or words 0 0 ≡ 0 → get_or (raised words i) 0 0 ≡ 0
+lanes-raised [] i high none = none
+lanes-raised (w ∷ ws) zero high none = absurd (omega arith)
+lanes-raised (w ∷ ws) (suc i) high none = none
+
+pub one-end : (t : Table) (end : End) → 1 ≤ end_word t end
+one-end t (Balancer b) = omega arith
+one-end t (Exit i) = omega arith
+
+module _ (t : Table) (words : List ℕ) (long : length words ≡ word_count t) where
+  -- a guarded word
+  guarded : (i j : ℕ) (n x y : ℕ) → i < length words → (x < n → j ≡ i → x ≡ y) → (x ≡ y → j ≡ i) → y < n
+      → when (ltb x n) (get_or (raised words i) j 0) ≡ when (ltb x n) (get_or words j 0) + when (eqb x y) 1
+  guarded i j n x y inside distinct same low = let one = one_more-at words i j inside in grind (arith, nat_tests)
+
+  -- a word of others
+  unguarded : (i j n x : ℕ) → i < length words → (x < n → j ≢ i)
+      → when (ltb x n) (get_or (raised words i) j 0) ≡ when (ltb x n) (get_or words j 0)
+  unguarded i j n x inside distinct = let one = one_more-at words i j inside in grind (arith, nat_tests)
+
+  -- an end's word rises
+  pub count-raised : (end other : End) → Stands t end
+      → count_in t (raised words (end_word t end)) other ≡ count_in t words other + when (is_end end other) 1
+  count-raised (Balancer b) (Balancer c) h = guarded _ _ _ _ _ (omega (arith, long)) (λ l e. omega arith) (λ e. omega arith) h
+  count-raised (Balancer b) (Exit j) h = unguarded _ _ _ _ (omega (arith, long)) (λ l e. omega arith) ∙ omega arith
+  count-raised (Exit i) (Balancer c) h = unguarded _ _ _ _ (omega (arith, long)) (λ l e. omega arith) ∙ omega arith
+  count-raised (Exit i) (Exit j) h = guarded _ _ _ _ _ (omega (arith, long)) (λ l e. omega arith) (λ e. omega arith) h
+
+  pub entered-kept : (end : End) → Stands t end → (u : ℕ) → entered_in t (raised words (end_word t end)) u ≡ entered_in t words u
+  entered-kept (Balancer b) h u = unguarded _ _ _ _ (omega (arith, long)) (λ l e. omega arith)
+  entered-kept (Exit i) h u = unguarded _ _ _ _ (omega (arith, long)) (λ l e. omega arith)
+
+  -- an entry's word rises
+  pub entered-raised : (entry : ℕ) → entry < t.entries → (u : ℕ)
+      → entered_in t (raised words (1 + entry)) u ≡ entered_in t words u + one_at entry u
+  entered-raised entry h u =
+      guarded (1 + entry) (1 + u) t.entries u entry (omega (arith, long)) (λ l e. omega arith) (λ e. omega arith) h
+      ∙ ap (λ b. entered_in t words u + cond b 1 0) (turn u entry)
+    where
+      turn : (a b : ℕ) → eqb a b ≡ eqb b a
+      turn a b = grind (arith, nat_tests)
+
+  pub count-kept : (entry : ℕ) → entry < t.entries → (other : End) → count_in t (raised words (1 + entry)) other ≡ count_in t words other
+  count-kept entry h (Balancer b) = unguarded _ _ _ _ (omega (arith, long)) (λ l e. omega arith)
+  count-kept entry h (Exit i) = unguarded _ _ _ _ (omega (arith, long)) (λ l e. omega arith)
+
+-- the count of an end is its word
+pub count-word : (t : Table) (words : List ℕ) (end : End) → Stands t end → count_in t words end ≡ get_or words (end_word t end) 0
+count-word t words (Balancer b) h = rw (lt-ltb b t.balancers h) refl
+count-word t words (Exit i) h = rw (lt-ltb i t.width h) refl
+
+pub entered-word : (t : Table) (words : List ℕ) (entry : ℕ) → entry < t.entries → entered_in t words entry ≡ get_or words (1 + entry) 0
+entered-word t words entry h = rw (lt-ltb entry t.entries h) refl
 
 -- ---- one view
 
@@ -10,33 +74,17 @@ use Rattle.cn_floor.proofs.InStates.Raised.{count-kept, count-raised, entered-ke
 there-once : (u w c d : ℕ) → when (eqb u w) (cond (eqb c d) 1 0) ≡ when (eqb u w && eqb c d) 1
 there-once u w c d = grind (arith, nat_tests)
 
-there-turned : (u w c d : ℕ) → when (eqb u w) (cond (eqb c d) 1 0) ≡ when (eqb c d) (one_at u w)
-there-turned u w c d = grind (arith, nat_tests)
+each-once : (u w k : ℕ) → when (eqb u w) k ≡ one_at u w * k
+each-once u w k = grind (arith, nat_tests)
 
-none-turned : (c d : ℕ) → when (eqb c d) 0 ≡ 0
-none-turned c d = by (eqb c d)
-  where
-    by : (b : Bool) → ◌≡◌ {A = ℕ} (when b 0) 0
-    by true = refl
-    by false = refl
-
--- 1 for client d
-is-client : ℕ → ℕ × ℕ → ℕ
-is-client d e = cond (eqb e.1 d) 1 0
+each-turned : (c d k : ℕ) → when (eqb c d) k ≡ k * cond (eqb c d) 1 0
+each-turned c d k = grind (arith, nat_tests)
 
 module _ (token client entry : ℕ) (v : View) (inside : entry < length v.tokens) where
   pub on-after-enter : (w : ℕ) → on_in w (after_enter token client entry v) ≡ on_in w v + one_at entry w
   on-after-enter w =
       let a = weigh-come v.tokens token client entry inside w (λ _. 1) in
       omega (arith, ones (get_or v.tokens w []), ones (get_or (after_enter token client entry v).tokens w []))
-
-  pub standing-after-enter : (w d : ℕ) → standing_in w d (after_enter token client entry v)
-      ≡ standing_in w d v + when (eqb entry w && eqb client d) 1
-  standing-after-enter w d = omega (
-    arith,
-    weigh-come v.tokens token client entry inside w (λ e. cond (eqb e.1 d) 1 0),
-    there-once entry w client d,
-  )
 
   pub given-after-enter : (end : End) (n : ℕ) → given_in end n (after_enter token client entry v) ≡ given_in end n v
   given-after-enter (Balancer b) n = refl
@@ -53,33 +101,33 @@ Lands n v (Balancer b) = output_wire v.start.network.table b (n % 2) < length v.
 Lands n v (Exit i) = Unit {0}
 
 module _ (token client wire n : ℕ) (v : View) (is : IsThere v.tokens token client wire) where
+  -- however the tokens are weighed
+  weigh-step : (end : End) → Lands n v end → (w : ℕ) (f : ℕ × ℕ → ℕ)
+      → sum_by f (on (after_step token client end n v).tokens w) + when (eqb wire w) (f (token, client))
+      ≡ sum_by f (on v.tokens w) + onto n v end w * f (token, client)
+  weigh-step (Balancer b) lands w f =
+      let out : ℕ = output_wire v.start.network.table b (n % 2) in
+      omega (arith, weigh-pass v.tokens token client wire out is lands w f, each-once out w (f (token, client)))
+  weigh-step (Exit i) lands w f = omega (arith, weigh-leave v.tokens token client wire is w f)
+
   pub on-after_step : (end : End) → Lands n v end → (w : ℕ)
       → on_in w (after_step token client end n v) + one_at wire w ≡ on_in w v + onto n v end w
-  on-after_step (Balancer b) lands w =
-      let a = weigh-pass v.tokens token client wire (output_wire v.start.network.table b (n % 2)) is lands w (λ _. 1) in
-      omega (arith, ones (get_or v.tokens w []), ones (get_or (after_step token client (Balancer b) n v).tokens w []))
-  on-after_step (Exit i) lands w =
-      let a = weigh-leave v.tokens token client wire is w (λ _. 1) in
-      omega (arith, ones (get_or v.tokens w []), ones (get_or (after_step token client (Exit i) n v).tokens w []))
+  on-after_step end lands w = omega (
+    arith,
+    weigh-step end lands w (λ _. 1),
+    ones (on v.tokens w),
+    ones (on (after_step token client end n v).tokens w),
+  )
 
-  pub standing-after_step : (end : End) → Lands n v end → (w d : ℕ)
+  standing-after_step : (end : End) → Lands n v end → (w d : ℕ)
       → standing_in w d (after_step token client end n v) + when (eqb wire w && eqb client d) 1
       ≡ standing_in w d v + when (eqb client d) (onto n v end w)
-  standing-after_step (Balancer b) lands w d =
-      let out : ℕ = output_wire v.start.network.table b (n % 2) in
-      omega (
-        arith,
-        weigh-pass v.tokens token client wire out is lands w (λ e. cond (eqb e.1 d) 1 0),
-        there-once wire w client d,
-        there-turned out w client d,
-      )
-  standing-after_step (Exit i) lands w d =
-      omega (
-        arith,
-        weigh-leave v.tokens token client wire is w (λ e. cond (eqb e.1 d) 1 0),
-        there-once wire w client d,
-        none-turned client d,
-      )
+  standing-after_step end lands w d = omega (
+    arith,
+    weigh-step end lands w (λ e. cond (eqb e.1 d) 1 0),
+    there-once wire w client d,
+    each-turned client d (onto n v end w),
+  )
 
   pub given-after_step : (end other : End) (k : ℕ)
       → given_in other k (after_step token client end n v) ≡ given_in other k v + when (is_end end other && eqb n k) 1
@@ -113,7 +161,8 @@ module _ (start : Start) (words : List ℕ) (views : List View) (id : ℕ) (v : 
         standing = λ x d. omega (
           arith,
           total-set (standing_in x d) views id v w here,
-          standing-after-enter token client entry v inside x d,
+          weigh-come v.tokens token client entry inside x (λ e. cond (eqb e.1 d) 1 0),
+          there-once entry x client d,
         );
         given = λ end k. omega (arith, total-set (given_in end k) views id v w here, given-after-enter token client entry v inside end k);
         granted = λ d i k name. omega (arith, total-set (granted_in (base start) d i k name) views id v w here);

@@ -1,5 +1,5 @@
 -- In each state as many names are missing as clients are inside.
-use Rattle.cn_floor.proofs.Common.{◌≡◌, ◌≢◌, ℕ, zero, suc, ◌+◌, ◌-◌, ◌/◌, ◌%◌, ◌<◌, ◌≤◌, ◌&&◌, inl, inr, false, cond, eqb, get_or, map, sym, refl, ap, ◌∙◌, arith, mod_below, Exit, Grant, IsStart, Ledger, Start, Table, View, base, cases_eq, cases_lt, count_in, eq-eqb, get_elem?, given_in, le-ltb, lt-ltb, name_of, ne_eqb, once_below, some, sum-below-same, sum-below-zero, times, share, sum_below, exit_of-name_of, name-below, name_of-exit_of, sum-by-same, times-map, times_given, missing, ledger_at, FloorState, KeepsRule}
+use Rattle.cn_floor.proofs.Common.{◌≡◌, ℕ, zero, suc, ◌+◌, ◌-◌, ◌/◌, ◌%◌, ◌<◌, ◌≤◌, ◌&&◌, cond, eqb, get_or, map, sym, refl, ap, ◌∙◌, arith, mod_below, Exit, Grant, IsStart, Ledger, Start, Table, View, base, count_in, get_elem?, given_in, le-ltb, name_of, nat_tests, once_below, some, sum-below-same, sum-below-zero, times, share, sum_below, exit_of-name_of, name-below, name_of-exit_of, sum-by-same, times-map, times_given, missing, once-there, turned, ledger_at, FloorState, KeepsRule}
 use Rattle.cn_floor.specs.Missing.{came_at, inside_at, names_missing_at, times_granted}
 use Rattle.cn_floor.proofs.AtClose.Ends.{tight-before}
 use Rattle.cn_floor.proofs.InStates.Bounds.{all-came}
@@ -13,6 +13,9 @@ sum-below-both a zero f = let e : a + 0 ≡ a = omega arith in ap (λ (n : ℕ).
 sum-below-both a (suc b) f =
     let e : a + suc b ≡ suc (a + b) = omega arith in
     ap (λ (n : ℕ). sum_below n f) e ∙ omega (arith, sum-below-both a b f)
+
+both-tests : (a b c d e f : ℕ) → (a ≡ b → (c ≡ d) × (e ≡ f)) → (c ≡ d → e ≡ f → a ≡ b) → eqb a b ≡ (eqb c d && eqb e f)
+both-tests a b c d e f to from = grind (arith, nat_tests)
 
 module _ (start : Start) (began : IsStart start) (s : FloorState) (kept : KeepsRule start s) where
   abbrev t : Table
@@ -44,39 +47,19 @@ module _ (start : Start) (began : IsStart start) (s : FloorState) (kept : KeepsR
         let g : Grant = get_or v.grants j no-grant in
         let (narrow, is) = kept.sound.named g.client g.exit g.visit (g.name + m) (made start s kept id v here j low) in
         let its = exit_of-name_of t.width g.exit g.visit narrow in
-        ap {B = ℕ} (λ b. cond b 1 0) (elim (cases_eq g.name name) [
-          | inl e ↦
-              let whole : m + name ≡ name_of t.width g.exit g.visit = omega (arith, e, is) in
-              eq-eqb g.name name e
-              ∙ sym (rw (
-                eq-eqb at g.exit (ap (λ (n : ℕ). n % t.width) whole ∙ its.0),
-                eq-eqb g.visit turn
-                    (sym (ap (λ (n : ℕ). n / t.width) whole ∙ its.1)),
-              ) refl)
-          | inr other ↦ ne_eqb g.name name other ∙ sym (not-both g other is)
-        ]))
-      where
-        not-both : (g : Grant) → g.name ≢ name → g.name + m ≡ name_of t.width g.exit g.visit → (eqb at g.exit && eqb g.visit turn) ≡ false
-        not-both g other is = elim (cases_eq at g.exit) [
-          | inr n ↦ rw (ne_eqb at g.exit n) refl
-          | inl e ↦ elim (cases_eq g.visit turn) [
-            | inr n ↦ rw (eq-eqb at g.exit e, ne_eqb g.visit turn n) refl
-            | inl f ↦ absurd (
-                let same : name_of t.width g.exit g.visit ≡ name_of t.width at turn = λ i. name_of t.width (sym e i) (f i) in
-                other (omega (arith, is, same, name_of-exit_of t.width (m + name)))
-                )
-          ]
-        ]
+        ap {B = ℕ} (λ b. cond b 1 0) (both-tests g.name name at g.exit g.visit turn
+        (λ e. let whole : m + name ≡ name_of t.width g.exit g.visit = omega (arith, e, is) in
+        (ap (λ (n : ℕ). n % t.width) whole ∙ its.0, sym (ap (λ (n : ℕ). n / t.width) whole ∙ its.1)))
+        (λ e f. let same : name_of t.width g.exit g.visit ≡ name_of t.width at turn = λ i. name_of t.width (sym e i) (f i) in
+        omega (arith, is, same, name_of-exit_of t.width (m + name)))))
 
     -- so the name is granted as often as the ledger gives it
     as-given : times_granted s name ≡ times_given t l (m + name)
     as-given =
         let low : at < t.width = mod_below (m + name) t.width wide in
         let was : count_in t start.words (Exit at) ≡ share m t.width at = (tight-before start began).counts at low in
-        let late : share m t.width at ≤ turn = elim (cases_lt turn (share m t.width at)) [
-          | inl less ↦ absurd (omega (arith, (name-below m t.width at turn low).0 less, name_of-exit_of t.width (m + name)))
-          | inr more ↦ more
-        ] in
+        let late : share m t.width at ≤ turn =
+        turned _ _ _ _ (name-below m t.width at turn low).0 (omega (arith, name_of-exit_of t.width (m + name))) in
         let none : ◌≡◌ {A = ℕ} (once_below (count_in t start.words (Exit at)) turn) 0 =
         ap {B = ℕ} (λ b. cond b 1 0) (le-ltb turn (count_in t start.words (Exit at)) (omega (arith, was, late))) in
         omega (
@@ -93,9 +76,7 @@ module _ (start : Start) (began : IsStart start) (s : FloorState) (kept : KeepsR
       (tight-before start began).counts (n % t.width) low in
       let is : name_of t.width (n % t.width) (n / t.width) < m = omega (arith, less, name_of-exit_of t.width n) in
       let early = (name-below m t.width (n % t.width) (n / t.width) low).1 is in
-      let one : ◌≡◌ {A = ℕ} (once_below (count_in t start.words (Exit (n % t.width))) (n / t.width)) 1 =
-      ap {B = ℕ} (λ b. cond b 1 0) (lt-ltb (n / t.width) (count_in t start.words (Exit (n % t.width))) (omega (arith, was, early))) in
-      omega (arith, one)
+      omega (arith, once-there (count_in t start.words (Exit (n % t.width))) (n / t.width) (omega (arith, was, early)))
 
   pub missing-at : names_missing_at start s ≡ inside_at start s
   missing-at =

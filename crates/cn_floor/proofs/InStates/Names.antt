@@ -1,15 +1,14 @@
 -- In each state no name stands twice in a lane.
-use Rattle.cn_floor.proofs.Common.{◌≡◌, ℕ, ◌+◌, ◌<◌, ◌≤◌, ◌&&◌, inl, inr, Bool, true, false, cond, eqb, List, length, get_or, map, sym, refl, ap, ◌∙◌, arith, Grant, Ledger, Start, View, base, cases_eq, cases_lt, eq-eqb, get_elem?, granted_in, ne_eqb, some, times, get_or-map, length-map, get_or-le-sum_by, sum-by-same, times-map, times-place, granted-once, names-differ, ledger_at, FloorState, KeepsRule}
+use Rattle.cn_floor.proofs.Common.{◌≡◌, ℕ, ◌+◌, ◌<◌, ◌≤◌, ◌&&◌, inl, inr, Bool, cond, eqb, List, length, get_or, map, sym, refl, ap, ◌∙◌, arith, Grant, Ledger, Start, View, base, cases_lt, eq-eqb, get_elem?, granted_in, nat_tests, some, times, get_or-map, length-map, get_or-le-sum_by, sum-by-same, times-map, times-place, granted-once, names-differ, ledger_at, FloorState, KeepsRule}
 use Rattle.cn_floor.proofs.InStates.Totals.{part-le}
 
 pub no-grant : Grant
 no-grant = record { client = 0; exit = 0; visit = 0; name = 0 }
 
-none-last : (a b c : Bool) → (a && (b && (c && false))) ≡ false
-none-last false b c = refl
-none-last true false c = refl
-none-last true true false = refl
-none-last true true true = refl
+-- one test for four
+all-tests : (a b c d e f g h i j : ℕ) → (a ≡ b → (c ≡ d) × (e ≡ f) × (g ≡ h)) → (a ≡ b → i ≡ j) → (i ≡ j → a ≡ b)
+    → eqb a b ≡ (eqb c d && (eqb e f && (eqb g h && eqb i j)))
+all-tests a b c d e f g h i j to last from = grind (arith, nat_tests)
 
 module _ (start : Start) (s : FloorState) (kept : KeepsRule start s) (id : ℕ) (v : View) (at : get_elem? s.views id ≡ some v) where
   abbrev l : Ledger
@@ -44,22 +43,9 @@ module _ (start : Start) (s : FloorState) (kept : KeepsRule start s) (id : ℕ) 
   named-alike j k name low less is =
       let g : Grant = grant j in
       let x : Grant = grant k in
-      elim (cases_eq x.name name) [
-        | inr other ↦
-            ne_eqb x.name name other
-            ∙ sym (ap (λ b. eqb x.client g.client && (eqb x.exit g.exit && (eqb x.visit g.visit && b)))
-            (ne_eqb (x.name + m) (g.name + m) (λ e. other (omega arith)))
-            ∙ none-last (eqb x.client g.client) (eqb x.exit g.exit) (eqb x.visit g.visit))
-        | inl e ↦
-            let (client, exit, visit) = names-differ start.network.table l kept.sound x.client g.client x.exit g.exit x.visit g.visit
-            (x.name + m) (g.name + m) (made k less) (made j low) (omega arith) in
-            eq-eqb x.name name e ∙ sym (rw (
-              eq-eqb x.client g.client client,
-              eq-eqb x.exit g.exit exit,
-              eq-eqb x.visit g.visit visit,
-              eq-eqb (x.name + m) (g.name + m) (omega arith),
-            ) refl)
-      ]
+      all-tests x.name name x.client g.client x.exit g.exit x.visit g.visit (x.name + m) (g.name + m)
+      (λ e. names-differ start.network.table l kept.sound x.client g.client x.exit g.exit x.visit g.visit (x.name + m) (g.name + m)
+      (made k less) (made j low) (omega (arith, e, is))) (λ e. omega (arith, e, is)) (λ e. omega (arith, e, is))
 
   pub names-once : (name : ℕ) → times name (map (λ (g : Grant). g.name) v.grants) ≤ 1
   names-once name = elim (cases_lt 0 (times name (map (λ (g : Grant). g.name) v.grants))) [

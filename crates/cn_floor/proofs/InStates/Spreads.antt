@@ -1,18 +1,18 @@
--- A rule about words holds as well of a table in which they lie a stride apart.
-use Rattle.cn_floor.proofs.Common.{◌≡◌, ℕ, zero, suc, ◌+◌, ◌-◌, ◌*◌, ◌<◌, ◌≤◌, List, [], ◌∷◌, ◌++◌, length, replicate, get_or, set, sym, refl, ap, ◌∙◌, subst, arith, Allows, Me, Splits, State, length-replicate, spread, length-append, mul-le-mul_left, Act, Joins, Valid, carried_after, stepped, HoldsSpread, picked}
+-- Words that lie a stride apart in their table: a rule about words holds of it as well.
+use Rattle.std.proofs.lemmas.List.{get_or-append_right, set-append_right, replicate-append-replicate}
+use Rattle.cn_floor.proofs.Common.{◌≡◌, ℕ, zero, suc, ◌+◌, ◌-◌, ◌*◌, ◌<◌, ◌≤◌, List, [], ◌∷◌, ◌++◌, length, replicate, get_or, set, sym, refl, ap, ◌∙◌, subst, arith, Allows, Me, Splits, State, length-replicate, spread, length-append, mul-le-mul_left, Act, Joins, Valid, carried_after, stepped, HoldsSpread, picked, FloorValue, HoldsAt, Start, View, start_of, word_count, IsCounters, FloorState}
+use Rattle.cn_floor.specs.InsideCounters.{floor_of}
+use Rattle.cn_floor.specs.declared.floor.counters.Counters.TheInside.{Inside}
 
 -- ---- past what lies between
 
 get-past : (g j : ℕ) (xs : List ℕ) → get_or (replicate g 0 ++ xs) (g + j) 0 ≡ get_or xs j 0
-get-past zero j xs = ap (λ (n : ℕ). get_or xs n 0) (omega arith)
-get-past (suc g) j xs = let later : suc g + j ≡ suc (g + j) = omega arith in
-    ap (λ (n : ℕ). get_or (0 ∷ (replicate g 0 ++ xs)) n 0) later ∙ get-past g j xs
+get-past g j xs = get_or-append_right (replicate g 0) xs g (g + j) 0 (length-replicate g 0) (omega arith)
+    ∙ ap (λ (k : ℕ). get_or xs k 0) (omega arith)
 
 set-past : (g j n : ℕ) (xs : List ℕ) → set (replicate g 0 ++ xs) (g + j) n ≡ replicate g 0 ++ set xs j n
-set-past zero j n xs = ap (λ (m : ℕ). set xs m n) (omega arith)
-set-past (suc g) j n xs =
-    let later : suc g + j ≡ suc (g + j) = omega arith in
-    ap (λ (m : ℕ). set (0 ∷ (replicate g 0 ++ xs)) m n) later ∙ ap (λ (ys : List ℕ). 0 ∷ ys) (set-past g j n xs)
+set-past g j n xs = set-append_right (replicate g 0) xs g (g + j) n (length-replicate g 0) (omega arith)
+    ∙ ap (λ (k : ℕ). replicate g 0 ++ set xs k n) (omega arith)
 
 picked-past : (stride g : ℕ) (xs : List ℕ) → picked stride g (replicate g 0 ++ xs) ≡ picked stride 0 xs
 picked-past stride zero xs = refl
@@ -97,3 +97,86 @@ module _ (stride : ℕ) (some-stride : 1 ≤ stride) where
         → Allows holds slots id me i f then → Allows (HoldsSpread stride holds) slots id me place f then
     allows-at {slots} {id} {me} {i} {place} f then is allow =
         subst (λ (n : ℕ). Allows (HoldsSpread stride holds) slots id me n f then) (sym is) (allows-spread slots id me i f then allow)
+
+-- What a seat may do on a floor's table, in which the words lie a stride apart, by what it may do to the words.
+
+module _ (c : Inside) (is : IsCounters c) where
+  abbrev pub Rule : FloorState → Type 0
+  Rule = HoldsSpread c.table.shared.key.stride (HoldsAt (start_of c.table.shared.key))
+
+  some : 1 ≤ c.table.shared.key.stride
+  some = omega (arith, is.apart, is.stride.0)
+
+  -- for the floor as contracts see it
+  module _ {floor : FloorValue} (at : floor_of c ≡ floor) where
+    pub entries : c.entries ≡ floor.start.network.table.entries
+    entries = is.entries ∙ ap (λ (f : FloorValue). f.start.network.table.entries) at
+
+    about : floor.start ≡ start_of c.table.shared.key
+    about = sym (ap (λ (f : FloorValue). f.start) at)
+
+    pub there : {place i : ℕ} → place ≡ c.stride * i → i < word_count floor.start.network.table → place < c.table.shared.table_id.words
+    there lies low = omega (
+      arith,
+      lies,
+      is.words,
+      low-spread c.stride is.stride.0 low,
+      ap (λ (f : FloorValue). c.stride * word_count f.start.network.table) at,
+    )
+
+    -- the lanes' word lies first
+    pub first-there : 0 < c.table.shared.table_id.words
+    first-there = let first : 0 ≡ c.stride * 0 = omega arith in there first (omega arith)
+
+    pub at-word : {slots id place i : ℕ} {me : Me (Unit {0}) View} (f : ℕ → ℕ) (then : ℕ → Me (Unit {0}) View → Type 0)
+        → place ≡ c.stride * i → Allows (HoldsAt floor.start) slots id me i f then → Allows Rule slots id me place f then
+    at-word {slots} {id} {place} {i} {me} f then lies allow =
+        allows-at c.table.shared.key.stride some (HoldsAt (start_of c.table.shared.key)) f then
+        (lies ∙ ap (λ (n : ℕ). n * i) (sym is.apart))
+        (subst (λ (s : Start). Allows (HoldsAt s) slots id me i f then) about allow)
+
+    pub splits-at : {id : ℕ} {v left right : View} → Splits (HoldsAt floor.start) id v left right → Splits Rule id v left right
+    splits-at {id} {v} {left} {right} split =
+        splits-spread c.table.shared.key.stride some (HoldsAt (start_of c.table.shared.key)) id v left right
+        (subst (λ (s : Start). Splits (HoldsAt s) id v left right) about split)
+
+    pub joins-at : {id other : ℕ} {v w both spent : View} → Joins (HoldsAt floor.start) id v other w both spent
+        → Joins Rule id v other w both spent
+    joins-at {id} {other} {v} {w} {both} {spent} join =
+        joins-spread c.table.shared.key.stride some (HoldsAt (start_of c.table.shared.key)) id v other w both spent
+        (subst (λ (s : Start). Joins (HoldsAt s) id v other w both spent) about join)
+
+-- Words that are laid a stride apart one after the other.
+
+-- the first words, and zeros for the others
+abbrev pub laid : ℕ → List ℕ → List ℕ
+laid zero ws = replicate (length ws) 0
+laid (suc n) [] = []
+laid (suc n) (w ∷ ws) = w ∷ laid n ws
+
+-- one more
+pub laid-next : (ws : List ℕ) (n : ℕ) → n < length ws → set (laid n ws) n (get_or ws n 0) ≡ laid (suc n) ws
+laid-next [] n less = absurd (omega arith)
+laid-next (w ∷ ws) zero less = refl
+laid-next (w ∷ ws) (suc n) less = ap (λ (xs : List ℕ). w ∷ xs) (laid-next ws n (omega arith))
+
+-- all
+pub laid-all : (ws : List ℕ) (n : ℕ) → n ≡ length ws → laid n ws ≡ ws
+laid-all [] zero all = refl
+laid-all [] (suc n) all = refl
+laid-all (w ∷ ws) zero all = absurd (omega arith)
+laid-all (w ∷ ws) (suc n) all = ap (λ (xs : List ℕ). w ∷ xs) (laid-all ws n (omega arith))
+
+-- zeros a stride apart are zeros
+pub spread-zeros : (stride : ℕ) → 1 ≤ stride → (n : ℕ) → spread stride (replicate n 0) ≡ replicate (stride * n) 0
+spread-zeros stride some zero = let none : 0 ≡ stride * 0 = omega arith in ap (λ (k : ℕ). replicate {A = ℕ} k 0) none
+spread-zeros stride some (suc n) =
+    let more : suc (stride - 1 + stride * n) ≡ stride * suc n = omega arith in
+    ap (λ (xs : List ℕ). 0 ∷ (replicate (stride - 1) 0 ++ xs)) (spread-zeros stride some n)
+    ∙ ap (λ (xs : List ℕ). 0 ∷ xs) (replicate-append-replicate (stride - 1) (stride * n) 0)
+    ∙ ap (λ (k : ℕ). replicate {A = ℕ} k 0) more
+
+-- words that lie side by side
+pub spread-one : (ws : List ℕ) → spread 1 ws ≡ ws
+spread-one [] = refl
+spread-one (w ∷ ws) = ap (λ (xs : List ℕ). w ∷ xs) (spread-one ws)

@@ -1,4 +1,4 @@
-use Rattle.cn_floor.proofs.InStates.Order.{consistent}
+use Rattle.cn_floor.proofs.InStates.Histories.{consistent}
 use Rattle.cn_floor.proofs.laws.counting_networks_are_quiescently_consistent.Goals as goal
 
 pub returns : goal.returns

@@ -1,5 +1,5 @@
 use Rattle.cn_floor.proofs.Common.{[], ledger_of}
-use Rattle.cn_floor.proofs.InStates.Reached.{sound-led}
+use Rattle.cn_floor.proofs.InStates.Histories.{sound-led}
 use Rattle.cn_floor.proofs.floor.Floor.each_ledger_is_reached.Goals as goal
 
 pub returns-clause-sound : goal.returns-clause-sound

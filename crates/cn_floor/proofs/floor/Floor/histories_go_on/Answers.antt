@@ -1,4 +1,4 @@
-use Rattle.cn_floor.proofs.InStates.GoingOn.{led-on, more-enter, more-list, more-move, more-sweep}
+use Rattle.cn_floor.proofs.InStates.Histories.{led-on, more-enter, more-list, more-move, more-sweep}
 use Rattle.cn_floor.proofs.floor.Floor.histories_go_on.Goals as goal
 
 pub returns-clause-enters : goal.returns-clause-enters

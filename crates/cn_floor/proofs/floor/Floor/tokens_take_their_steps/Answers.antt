@@ -1,4 +1,4 @@
-use Rattle.cn_floor.proofs.InStates.Walked.{takes-steps}
+use Rattle.cn_floor.proofs.InStates.Accounts.{takes-steps}
 use Rattle.cn_floor.proofs.floor.Floor.tokens_take_their_steps.Goals as goal
 
 pub returns-clause-walked : goal.returns-clause-walked

@@ -1,5 +1,5 @@
 use Rattle.cn_floor.proofs.Common.{ℕ, ◌+◌, sym, arith, sum-below-fewer, sum-below-next, sum-below-none, entered_in, slots_items, words_in}
-use Rattle.cn_floor.proofs.InStates.Raised.{entered-word}
+use Rattle.cn_floor.proofs.InStates.Ledgers.{entered-word}
 use Rattle.cn_floor.proofs.floor.reading.clients_of.Goals as goal
 
 pub loop-entry-init : goal.loop-entry-init

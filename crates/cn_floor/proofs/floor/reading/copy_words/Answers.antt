@@ -1,6 +1,6 @@
 use Rattle.cn_floor.proofs.Common.{◌≡◌, ℕ, List, ap, sym, ◌∙◌, slots_items, spread, words_in, IsSpaced, rules, arith}
 use Rattle.std.proofs.lemmas.Grind.{common_steps}
-use Rattle.cn_floor.proofs.InStates.Laid.{spread-one}
+use Rattle.cn_floor.proofs.InStates.Spreads.{spread-one}
 use Rattle.cn_floor.proofs.floor.reading.copy_words.Goals as goal
 
 -- words side by side are all that the table has

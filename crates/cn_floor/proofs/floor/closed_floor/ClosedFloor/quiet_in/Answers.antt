@@ -1,10 +1,5 @@
-use Rattle.cn_floor.proofs.Common.{◌≡◌, ℕ, List, arith, ap, sym, ◌∙◌, subst, IsClosed, Start, WordsValue, clients_in, word_count, IfSome, words_before, IsClosedFloor, QuietValue, IsDifference, NoneWent}
+use Rattle.cn_floor.proofs.Common.{◌≡◌, ℕ, List, arith, ap, sym, ◌∙◌, subst, IsClosed, Start, WordsValue, clients_in, IfSome, words_before, IsClosedFloor, QuietValue, IsDifference, NoneWent}
 use Rattle.cn_floor.proofs.floor.closed_floor.ClosedFloor.quiet_in.Goals as goal
-
-pub copy_words-requires-clause-places : goal.copy_words-requires-clause-places
-copy_words-requires-clause-places c =
-    c.requires.room ∙ ap (λ (q : QuietValue). word_count q.start.network.table) (sym c.self.view_is)
-    ∙ sym c.self.invariant.closed.carried.words
 
 -- they lie as those lay with which the floor began
 lies : (before : WordsValue) (quiet : QuietValue) (stride : ℕ) → stride ≡ before.stride → before ≡ words_before quiet.start
@@ -19,15 +14,11 @@ closed-requires-clause-closed c =
     (λ i. record { network = (sym c.self.invariant.network) i; words = (sym c.copy_words.ensures) i; stride = (sym lie) i })
     c.self.invariant.closed
 
-pub closed-requires-clause-clients : goal.closed-requires-clause-clients
-closed-requires-clause-clients c =
-    let copied = c.copy_words.ensures in
-    c.self.invariant.clients ∙ (λ i. clients_in ((sym c.self.invariant.network) i).table ((sym copied) i))
-
 pub invariant_of-result : goal.invariant_of-result
 invariant_of-result c =
     let start : Start = c.self.inside.lane.value.home.start in
-    let before = c.requires.before ∙ ap (λ (q : QuietValue). words_before q.start) (sym c.self.view_is) in
+    let before : c.args.before ≡ words_before start =
+    c.requires.before ∙ ap (λ (q : QuietValue). words_before q.start) (sym c.self.view_is) in
     let copied = c.copy_words.ensures in
     let words : c.closed.result.words ≡ c.copy_words.new.list.items = ap (λ (w : WordsValue). w.words) c.closed.ensures in
     record {
@@ -44,9 +35,3 @@ invariant_of-result c =
           before c.risen_to-risen.ensures.some);
       none = λ n. subst (λ (b : WordsValue). NoneWent b.network.table b.words) before (c.risen_to-risen.ensures.none n);
     }
-
-pub returns : goal.returns
-returns c =
-    let copied = c.copy_words.ensures in
-    let words = ap (λ (w : WordsValue). w.words) c.closed.ensures ∙ copied in
-    (λ i. record { start = c.self.inside.lane.value.home.start; did = c.self.inside.lane.value.view; words = words i }) ∙ c.self.view_is

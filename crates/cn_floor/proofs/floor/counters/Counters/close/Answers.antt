@@ -1,4 +1,4 @@
-use Rattle.cn_floor.proofs.Common.{rules, subst, PostValue, Start, slots_items, words_in, IsEnding}
+use Rattle.cn_floor.proofs.Common.{subst, PostValue, Start, slots_items, words_in, IsEnding}
 use Rattle.cn_floor.proofs.AtClose.Spread.{ending-spread, picked-all}
 use Rattle.cn_floor.proofs.floor.counters.Counters.close.Goals as goal
 
@@ -13,6 +13,3 @@ returns-clause-spaced c = record {
   some = c.self.invariant.stride.0;
   apart = picked-all c.self.inside c.self.invariant _ c.close_with.ensures.values.2;
 }
-
-pub returns-clause-whole : goal.returns-clause-whole
-returns-clause-whole c = search rules

@@ -1,32 +1,20 @@
-use Rattle.cn_floor.proofs.Common.{◌≡◌, ◌^◌, ◌%◌, ◌+◌, [], ◌<◌, length, sym, ap, ◌∙◌, subst, arith, FloorValue, PostValue, Start, View, start_of, AllComeIn, EnteringAll}
-use Rattle.cn_floor.proofs.InStates.EntersAll.{enter-all-by}
-use Rattle.cn_floor.proofs.InStates.Placed.{at-word, there}
+use Rattle.cn_floor.proofs.Common.{◌≡◌, ◌^◌, ◌%◌, ◌+◌, [], length, sym, ap, ◌∙◌, arith, FloorValue, PostValue, View, AllComeIn, EnteringAll}
+use Rattle.cn_floor.proofs.InStates.Enters.{lets-all-in}
+use Rattle.cn_floor.proofs.InStates.Spreads.{at-word, there}
 use Rattle.cn_floor.proofs.InLane.Posts.{kept-by-all, post-kept}
 use Rattle.cn_floor.proofs.floor.counters.Counters.enter_all.Goals as goal
 
 pub fetch_add-requires : goal.fetch_add-requires
 fetch_add-requires g c =
-    let key = c.self.inside.table.shared.key in
-    let here = ap (λ (p : PostValue). p.home) c.post.view_is ∙ c.requires.own ∙ sym c.self.view_is in
-    let was = c.post.invariant in
-    let about : c.args.self.now.start ≡ start_of key = sym (ap (λ (h : FloorValue). h.start) c.self.view_is) in
-    let entry = subst (λ (s : Start). c.args.entry < s.network.table.entries) about c.requires.entry in
-    let inside : c.args.entry < length c.post.inside.seat.me.0.tokens =
-    omega (
-      arith,
-      entry,
-      was.wires,
-      ap (λ (h : FloorValue). length h.start.network.table.ends) here,
-      c.self.invariant.began.network.formed.wires,
-    ) in (
-      ap (λ (h : FloorValue). h.table) here,
-      there c.self.inside c.self.invariant c.place_of.ensures (omega arith),
-      at-word c.self.inside c.self.invariant (λ n. (n + c.args.count) % 2 ^ 64)
-          (λ n new. (new.1 ≡ []) × AllComeIn g.T.EnterAllOf.entering c.post.inside.seat.me.0 new.0)
-          c.place_of.ensures
-          (enter-all-by (start_of key) _ _ c.post.inside.seat.me g.T.EnterAllOf.entering c.args._clients.now c.args.entry c.args.count
-          (c.requires.entering ∙ ap (λ (s : Start). record { start = s; clients = c.args._clients.now; entry = c.args.entry }) about)
-          was.no_slot was.idle (ap (λ (h : FloorValue). h.start) here) entry inside
+    let home = ap (λ (p : PostValue). p.home) c.post.view_is ∙ c.requires.own in
+    let was = c.post.invariant in (
+      ap (λ (f : FloorValue). f.table) (home ∙ sym c.self.view_is),
+      there c.self.inside c.self.invariant c.self.view_is c.place_of.ensures (omega (arith, c.requires.entry)),
+      at-word c.self.inside c.self.invariant c.self.view_is (λ n. (n + c.args.count) % 2 ^ 64)
+          (λ n new. (new.1 ≡ []) × AllComeIn g.T.EnterAllOf.entering c.post.inside.seat.me.0 new.0) c.place_of.ensures
+          (lets-all-in c.args.self.now.start _ _ c.post.inside.seat.me g.T.EnterAllOf.entering c.args._clients.now c.args.entry c.args.count
+          c.requires.entering was.no_slot was.idle (ap (λ (f : FloorValue). f.start) home) c.requires.entry
+          (was.wires ∙ ap (λ (f : FloorValue). length f.start.network.table.ends) home)
           (rw (← c.post.view_is) at c.requires.quota) c.requires.count),
     )
 

@@ -1,67 +1,29 @@
-use Rattle.cn_floor.proofs.Common.{◌≡◌, ℕ, ◌+◌, ◌-◌, ◌<◌, refl, sym, ap, ◌∙◌, subst, arith, FloorValue, IsAnswer, IsStart, View}
-use Rattle.cn_floor.proofs.InStates.Loading.{Loaded, loaded-next, loaded-none}
+use Rattle.cn_floor.proofs.Common.{◌≡◌, ◌+◌, ◌-◌, sym, ◌∙◌, subst, arith, FloorValue, IsStart, View}
+use Rattle.cn_floor.proofs.InStates.Loading.{Loaded, loaded-next}
+use Rattle.cn_floor.proofs.InStates.Spreads.{entries}
 use Rattle.cn_floor.proofs.floor.counters.Counters.load_all.Goals as goal
-
-pub loop-entry-init : goal.loop-entry-init
-loop-entry-init c =
-    let some = c.self.invariant.began.network.formed.entries.0 in (
-      refl,
-      c.requires.slots.0,
-      loaded-none _ _ c.requires.slots.1
-          (omega (arith, some, ap (λ (h : FloorValue). h.start.network.table.entries) c.self.view_is)),
-    )
-
-pub load_next-total-requires-clause-own : goal.load_next-total-requires-clause-own
-load_next-total-requires-clause-own c = c.loop-entry.invariant.0 ∙ c.requires.own
-
-pub load_next-total-requires-clause-slots : goal.load_next-total-requires-clause-slots
-load_next-total-requires-clause-slots c = c.loop-entry.invariant.1
-
-pub load_next-total-requires-clause-entry : goal.load_next-total-requires-clause-entry
-load_next-total-requires-clause-entry c =
-    omega (arith, c.loop-entry-test.true, c.self.invariant.entries, ap (λ (h : FloorValue). h.start.network.table.entries) c.self.view_is)
 
 pub load_next-total-requires-clause-next : goal.load_next-total-requires-clause-next
 load_next-total-requires-clause-next c =
-    (c.loop-entry.invariant.2.on_way (omega (
-      arith,
-      c.loop-entry-test.true,
-      c.self.invariant.entries,
-      ap (λ (h : FloorValue). h.start.network.table.entries) c.self.view_is,
-    ))).1
+    (c.loop-entry.invariant.2.on_way
+    (omega (arith, c.loop-entry-test.true, entries c.self.inside c.self.invariant c.self.view_is))).1
 
 -- once one more word is loaded
 module _ (c : goal.After-load_next-total) where
   loaded : Loaded c.args.self.now.start c.args.seat.now.me.0 (c.loop-entry.entry + 1) (c.loop-entry.total + c.load_next-total.result)
       c.load_next-total.new.seat.me.0
   loaded =
-      let low : c.loop-entry.entry < c.args.self.now.start.network.table.entries =
-      omega (
-        arith,
-        c.loop-entry-test.true,
-        c.self.invariant.entries,
-        ap (λ (h : FloorValue). h.start.network.table.entries) c.self.view_is,
-      ) in
-      loaded-next _ _ _ _ _ _ _ low c.loop-entry.invariant.2 c.load_next-total.ensures.loads
+      loaded-next _ _ _ _ _ _ _ (omega (arith, c.loop-entry-test.true, entries c.self.inside c.self.invariant c.self.view_is)) c.loop-entry.invariant.2 c.load_next-total.ensures.loads
 
 pub overflow_add-total : goal.overflow_add-total
 overflow_add-total c =
     let began : IsStart c.args.self.now.start = subst (λ (h : FloorValue). IsStart h.start) c.self.view_is c.self.invariant.began in
     omega (arith, (loaded c).few, began.few, began.quota)
 
-pub loop-entry-preserved : goal.loop-entry-preserved
-loop-entry-preserved c = (c.load_next-total.ensures.seat.0 ∙ c.loop-entry.invariant.0, c.load_next-total.ensures.seat.1, loaded c)
-
 -- at the end
 module _ (c : goal.After-loop-entry) where
   all : c.loop-entry.entry ≡ c.args.self.now.start.network.table.entries
-  all = omega (
-    arith,
-    c.loop-entry-test.false,
-    c.loop-entry.auto.entry-end,
-    c.self.invariant.entries,
-    ap (λ (h : FloorValue). h.start.network.table.entries) c.self.view_is,
-  )
+  all = omega (arith, c.loop-entry-test.false, c.loop-entry.auto.entry-end, entries c.self.inside c.self.invariant c.self.view_is)
 
 pub returns-clause-view : goal.returns-clause-view
 returns-clause-view c =
@@ -73,11 +35,3 @@ returns-clause-view c =
       loads = (sym c.requires.slots.1) i;
       steps = was.steps + is i;
     })
-
-pub returns-clause-answer : goal.returns-clause-answer
-returns-clause-answer c =
-    subst (λ (n : ℕ). IsAnswer c.args.self.now.start c.args.seat.now.me.0 (c.loop-entry.total - n)) (sym c.requires.before)
-    (c.loop-entry.invariant.2.at_end (all c)).2
-
-pub returns-clause-in_state : goal.returns-clause-in_state
-returns-clause-in_state c = c.loop-entry.invariant.2.in_state (all c)

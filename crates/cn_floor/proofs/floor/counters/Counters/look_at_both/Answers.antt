@@ -1,6 +1,6 @@
-use Rattle.cn_floor.proofs.Common.{◌≡◌, ℕ, ◌+◌, ◌-◌, ◌++◌, [], length, rules, sym, ap, ◌∙◌, subst, arith, IsAnswer, Start, StoodInState, View, start_of, Pair, both_of, cut_first, first_after, after_entered, after_look}
-use Rattle.cn_floor.proofs.InStates.Placed.{first as lanes-place, joins-at, there}
-use Rattle.cn_floor.proofs.InStates.Together.{answers-both, names-distinct, takes-together}
+use Rattle.cn_floor.proofs.Common.{◌≡◌, ℕ, ◌+◌, ◌-◌, ◌++◌, [], length, rules, sym, ap, ◌∙◌, subst, arith, IsAnswer, Start, StoodInState, View, Pair, both_of, cut_first, first_after, after_entered, after_look}
+use Rattle.cn_floor.proofs.InStates.Spreads.{first-there, joins-at}
+use Rattle.cn_floor.proofs.InStates.Sharing.{answers-both, names-distinct, takes-together}
 use Rattle.cn_floor.proofs.floor.counters.Counters.look_at_both.Goals as goal
 
 pub join_seat-requires : goal.join_seat-requires
@@ -14,8 +14,8 @@ join_seat-requires g c =
       search rules,
       search rules,
       search rules,
-      there c.self.inside c.self.invariant (lanes-place c.self.inside c.self.invariant) (omega arith),
-      joins-at c.self.inside c.self.invariant (takes-together (start_of c.self.inside.table.shared.key) _ _ _ _ idle idle' long),
+      first-there c.self.inside c.self.invariant c.self.view_is,
+      joins-at c.self.inside c.self.invariant c.self.view_is (takes-together _ _ long c.args.self.now.start _ _ idle idle'),
     )
 
 pub returns-clause-distinct : goal.returns-clause-distinct
@@ -35,12 +35,10 @@ returns-clause-in_state g c =
 
 pub returns-clause-answer : goal.returns-clause-answer
 returns-clause-answer g c =
-    let v : View = c.args.seat.now.me.0 in
-    let w : View = c.args.other.me.0 in
     let joined = ap (λ me. me.0) c.join_seat.ensures.2 ∙ (λ i. both_of (c.look.ensures.looks.0 i) (c.look-2.ensures.looks.0 i)) in
-    let both = answers-both c.args.self.now.start (after_look v) (after_look w) c.load_all-entered.result
-    (subst (λ (x : View). IsAnswer c.args.self.now.start x c.load_all-entered.result) joined c.load_all-entered.ensures.answer) in
-    (search, search)
+    let is = subst (λ (x : View). IsAnswer c.args.self.now.start x c.load_all-entered.result) joined c.load_all-entered.ensures.answer in
+    answers-both c.args.self.now.start c.args.seat.now.me.0 c.args.other.me.0 _
+    (record { own = is.own; seen = is.seen; names = is.names; quota = is.quota })
 
 cut-first : (start : Start) (entered : ℕ) (p : Pair) (v l : View) → p.first ≡ after_look v
     → l ≡ after_entered start entered (both_of p.first p.second) → cut_first p l ≡ first_after start entered v
@@ -61,22 +59,6 @@ cut_in_two-other-requires-clause-pair g c =
     c.load_all-entered.ensures.view ∙ ap (λ me. after_entered start entered me.0) c.join_seat.ensures.2
     ∙ (λ i. after_entered start entered (both_of ((c.look.ensures.looks.0 ∙ sym c.requires.pair.0) i)
     ((c.look-2.ensures.looks.0 ∙ sym c.requires.pair.1) i)))
-
-pub cut_in_two-other-requires-clause-wires : goal.cut_in_two-other-requires-clause-wires
-cut_in_two-other-requires-clause-wires g c =
-    ap (λ (x : View). length x.tokens) c.requires.pair.1 ∙ c.requires.wires ∙ sym (ap (λ (x : View). length x.tokens) c.requires.pair.0)
-
-pub cut_in_two-other-requires-clause-idle : goal.cut_in_two-other-requires-clause-idle
-cut_in_two-other-requires-clause-idle g c =
-    (ap (λ (x : View). x.loads) c.requires.pair.0 ∙ c.requires.slots.1, ap (λ (x : View). x.loads) c.requires.pair.1 ∙ c.requires.slots.3)
-
-pub cut_in_two-other-requires-clause-first : goal.cut_in_two-other-requires-clause-first
-cut_in_two-other-requires-clause-first g c =
-    subst (λ (x : View). StoodInState c.args.self.now.start x) (c.look.ensures.looks.0 ∙ sym c.requires.pair.0) c.look.ensures.looks.1
-
-pub cut_in_two-other-requires-clause-second : goal.cut_in_two-other-requires-clause-second
-cut_in_two-other-requires-clause-second g c =
-    subst (λ (x : View). StoodInState c.args.self.now.start x) (c.look-2.ensures.looks.0 ∙ sym c.requires.pair.1) c.look-2.ensures.looks.1
 
 pub returns-clause-first : goal.returns-clause-first
 returns-clause-first g c =

@@ -48,8 +48,3 @@ invariant_of-counters c =
       entries = c.entries.ensures.value ∙ ap (λ (s : Start). s.network.table.entries) (sym same);
       balancers = c.balancers.ensures.value ∙ ap (λ (s : Start). s.network.table.balancers) (sym same);
     }
-
-pub returns-clause-spaced : goal.returns-clause-spaced
-returns-clause-spaced c =
-    c.in_ok-table.ensures.words ∙ ap (λ (ws : List ℕ). c.args.stride * length ws) c.as_slice.ensures.value
-    ∙ ap (λ (n : ℕ). c.args.stride * n) c.requires.began.carried.words

@@ -1,6 +1,5 @@
 use Rattle.cn_floor.proofs.Common.{◌≡◌, ◌*◌, ◌+◌, suc, ℕ, List, ap, arith, get_or, length, set, sym, ◌∙◌, spread}
-use Rattle.cn_floor.proofs.InStates.Laid.{laid, laid-all, laid-next, spread-zeros}
-use Rattle.cn_floor.proofs.InStates.Spreads.{set-spread}
+use Rattle.cn_floor.proofs.InStates.Spreads.{laid, laid-all, laid-next, spread-zeros, set-spread}
 use Rattle.cn_floor.proofs.floor.counters.spreading.lay.Goals as goal
 
 pub loop-word-init : goal.loop-word-init

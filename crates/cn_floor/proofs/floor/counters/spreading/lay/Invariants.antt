@@ -1,5 +1,5 @@
 use Rattle.cn_floor.proofs.Common.{◌≡◌, spread}
-use Rattle.cn_floor.proofs.InStates.Laid.{laid}
+use Rattle.cn_floor.proofs.InStates.Spreads.{laid}
 use Rattle.cn_floor.proofs.floor.counters.spreading.lay.Given as goal
 
 -- the words so far are laid

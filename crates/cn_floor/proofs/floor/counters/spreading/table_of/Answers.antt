@@ -1,7 +1,6 @@
 use Rattle.cn_floor.proofs.Common.{◌≡◌, ◌*◌, ℕ, List, length, sym, ap, ◌∙◌, spread}
 use Rattle.std.proofs.lemmas.Result.{IfOk-weaker}
-use Rattle.cn_floor.proofs.InStates.Laid.{spread-one}
-use Rattle.cn_floor.proofs.InStates.Spreads.{length-spread}
+use Rattle.cn_floor.proofs.InStates.Spreads.{spread-one, length-spread}
 use Rattle.cn_floor.proofs.floor.counters.spreading.table_of.Goals as goal
 
 pub of_words-requires : goal.of_words-requires

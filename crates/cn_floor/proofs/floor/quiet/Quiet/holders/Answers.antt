@@ -1,9 +1,5 @@
-use Rattle.cn_floor.proofs.Common.{◌≡◌, ◌++◌, ℕ, List, ap, drop, length, sym, subst, take, arith, take-append_seam, Grant, ListsHolders}
+use Rattle.cn_floor.proofs.Common.{◌≡◌, ◌++◌, ℕ, List, drop, length, sym, subst, take, arith, take-append_seam, ListsHolders}
 use Rattle.cn_floor.proofs.floor.quiet.Quiet.holders.Goals as goal
-
-pub list_holders-requires : goal.list_holders-requires
-list_holders-requires c =
-    omega (arith, c.deref_mut.ensures.len, c.in_ok-holders.ensures.len, ap (λ (gs : List Grant). length gs) c.grants.ensures)
 
 pub returns : goal.returns
 returns c =
