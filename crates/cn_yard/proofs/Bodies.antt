@@ -1,7 +1,7 @@
 -- A yard before and after each change of its records.
-use Rattle.cn_yard.proofs.Common.{◌≡◌, ℕ, ◌+◌, ◌-◌, ◌<◌, ◌≤◌, max, List, length, get_or, refl, sym, ap, ◌∙◌, arith, subst, Some, vec_len, Vec, Global, IsSome, with_items, get_or_read, with_items_is, Inside, Keeps, Line, Record, Yard, client_of, count_of, line_of, lists_of, moved, nat_tests, no_line, standing, tokens_in, wire_of, yard_of, MOST_TOKENS, Admits, Moves, Releases, IsClient, Fills, IsLined, IsMore, IsMove, SameBut}
-use Rattle.cn_yard.proofs.Changes.{admits-of, links-client, lists-same, moves-of, releases-of}
-use Rattle.cn_yard.proofs.Appended.{last-below, last-there}
+use Rattle.cn_yard.proofs.Common.{◌≡◌, ℕ, ◌+◌, ◌-◌, ◌<◌, ◌≤◌, max, List, length, get_or, refl, sym, ap, ◌∙◌, arith, subst, Some, vec_len, Vec, Global, IsSome, with_items, get_or_read, with_items_is, Inside, Keeps, Line, Record, Yard, client_of, count_of, line_of, lists_of, moved, nat_tests, no_line, standing, tokens_in, wire_of, yard_of, MOST_TOKENS, Admits, Moves, Releases, IsClient, Fills, IsLined, IsMore, IsMove, SameBut, when, eqb}
+use Rattle.cn_yard.proofs.Changes.{Shifted, admits-of, links-client, lists-same, moves-of, releases-of}
+use Rattle.cn_yard.proofs.AllLines.{last-below, last-there}
 use Rattle.cn_yard.proofs.Wires.{live, standing-live, tokens-are}
 use Rattle.cn_yard.proofs.There.{second}
 
@@ -20,22 +20,28 @@ keeps-relinked y z order t to k re =
     let as_many = re.move.as_many in let wires = re.wires in let old = k.wires in
     record { lined = re.lined order k.lined; wires = omega arith }
 
+shifted : (y z : Inside) (order : ℕ → List ℕ) (t to : ℕ) → Keeps y order → Relinked y z t to → Shifted y z order t to
+shifted y z order t to k re = record {
+  old = k;
+  new = keeps-relinked y z order t to k re;
+  wires = re.wires;
+  clients = λ n o. re.move.client n;
+  len = re.move.len;
+  count = re.move.count;
+}
+
 pub moves-relinked : (y z : Inside) (order : ℕ → List ℕ) (t to from client : ℕ) → Keeps y order → Relinked y z t to → to < y.wires
     → standing (lists_of y) t ≡ Some (from, client) → Moves (yard_of y) (yard_of z) t client to
 moves-relinked y z order t to from client k re h stands =
     let (within, on_wire) = live y order k t (rw stands refl) in
-    let who : client ≡ client_of y.records.items t = second (sym stands ∙ standing-live y order k t within on_wire) in
-    let count = re.move.count y.wires in
-    rw who (moves-of y z order t to k (keeps-relinked y z order t to k re) re.wires re.move.client h re.move.len (grind (arith, nat_tests)))
+    let who : client ≡ client_of z.records.items t =
+    second (sym stands ∙ standing-live y order k t within on_wire) ∙ sym (re.move.client t) in
+    rw who (moves-of y z order t to (shifted y z order t to k re) h on_wire)
 
 pub releases-relinked : (y z : Inside) (order : ℕ → List ℕ) (t : ℕ) → Keeps y order → Relinked y z t y.wires
     → IsSome (standing (lists_of y) t) → Releases (yard_of y) (yard_of z) t
 releases-relinked y z order t k re stands =
-    let (within, on_wire) = live y order k t stands in
-    let count = re.move.count y.wires in
-    let wire = re.move.wire t in
-    releases-of y z order t k (keeps-relinked y z order t y.wires k re) re.wires re.move.client (grind (arith, nat_tests)) re.move.len
-    (grind (arith, nat_tests))
+    releases-of y z order t (shifted y z order t y.wires k re) (live y order k t stands).1
 
 -- ---- free records are added
 
@@ -112,16 +118,16 @@ pub admits-renamed : (old : Yard) (y m z : Inside) (order : ℕ → List ℕ) (t
     → count_of y.lines.items y.wires ≡ max 1 old.spare → Relinked y m t to → Renamed m z t client
     → wire_of y.records.items t ≡ y.wires → to < y.wires → Admits old (yard_of z) t client to
 admits-renamed old y m z order t to client k same spare re na free h =
-    let k' = keeps-renamed m z (moved order t to) t client (keeps-relinked y m order t to k re) na in
     let who = na.new.client t in
     let this : client_of z.records.items t ≡ client = grind (arith, nat_tests) in
-    let count = re.move.count y.wires in
-    let left : count_of z.lines.items y.wires ≡ count_of m.lines.items y.wires = ap (λ l. count_of l y.wires) na.lines in
-    let fewer : count_of m.lines.items y.wires + 1 ≡ count_of y.lines.items y.wires = grind (arith, nat_tests) in
-    rw (← this)
-    (admits-of old y z order t to k k' (na.wires ∙ re.wires) same spare
-    (λ n o. let c = na.new.client n in let d = re.move.client n in grind (arith, nat_tests)) h free (na.new.len ∙ re.move.len)
-    (omega arith))
+    rw (← this) (admits-of y z order t to (record {
+      old = k;
+      new = keeps-renamed m z (moved order t to) t client (keeps-relinked y m order t to k re) na;
+      wires = na.wires ∙ re.wires;
+      clients = λ n o. let c = na.new.client n in let d = re.move.client n in grind (arith, nat_tests);
+      len = na.new.len ∙ re.move.len;
+      count = λ u. ap (λ ls. count_of ls u + when (eqb (wire_of y.records.items t) u) 1) na.lines ∙ re.move.count u;
+    }) h old same spare free)
 
 -- ---- what the bodies leave in the fields
 

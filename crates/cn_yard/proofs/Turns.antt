@@ -1,6 +1,6 @@
 -- The tokens of a wire, dealt to two others one after the other.
 use Rattle.cn_yard.proofs.Common.{◌≡◌, ◌≢◌, ℕ, zero, suc, ◌+◌, ◌-◌, ◌%◌, ◌<◌, ◌≤◌, cond, Bool, true, false, List, [], ◌∷◌, ◌++◌, length, refl, sym, ap, ◌∙◌, subst, arith, Some, add-zero, append-nil, ◌==◌, Yard, last_on, nat_tests, on, standing, times_in, tokens_in, eq-eqb, ne_eqb, append_assoc, length_push, Deals, IsDealt, every_second, out_of, Moves}
-use Rattle.cn_yard.proofs.Taken.{IsFirst, first-there, once-moved, others-on, rest-on}
+use Rattle.cn_yard.proofs.There.{IsFirst, first-there, once-moved, others-on, rest-on}
 
 -- ---- one after the other
 

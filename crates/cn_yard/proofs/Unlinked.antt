@@ -1,18 +1,19 @@
 -- A record is taken off its line.
 use Rattle.cn_yard.proofs.Common.{◌≡◌, ◌≢◌, ℕ, ◌-◌, ◌<◌, ◌≤◌, inl, inr, true, false, cond, eqb, List, [], ◌∷◌, length, set, refl, sym, ap, ◌∙◌, arith, subst, ◌||◌, Line, Record, but, cases_eq, count_of, line_of, nat_tests, next_of, no_line, prev_of, times, times-nil, wire_of, cases_Bool, get_or-set_other, get_or-set_same, length-set, Chain, head_or, last_or, Ends, IsOff, Linked, line_without, IsLink, times-cons}
-use Rattle.cn_yard.proofs.Chains.{but-cons, but-head, but-out, chain-but, chain-but-last, chain-rest, chain-same, chain-tied, last-but, last-in, last-left, length-but, next-in, prev-in, tail_of, times-but}
+use Rattle.cn_yard.proofs.Chains.{but-cons, but-head, but-out, chain-but, chain-but-last, chain-same, last-but, last-in, last-left, length-but, next-in, prev-in, tail_of, times-but}
 
 -- ---- what is left of one line, with its links n and p
 
 module _ (n p : ℕ → ℕ) where
   -- the first of those that are left, where the first is taken
   head-left : (t x : ℕ) (xs : List ℕ) → Chain n p (x ∷ xs) → x ≡ t → times t (x ∷ xs) ≡ 1 → head_or (n t) (but t (x ∷ xs)) ≡ n t
+  unfolding Chain
   head-left t x [] c h one = let gone : but t (x ∷ []) ≡ [] = grind (arith, nat_tests) in rw gone refl
   head-left t x (y ∷ ys) c h one =
       let m = times-cons t x (y ∷ ys) in
       let out = but-out t (y ∷ ys) (grind (arith, nat_tests)) in
       let gone : but t (x ∷ y ∷ ys) ≡ but t (y ∷ ys) = grind (arith, nat_tests) in
-      rw (gone, out) (sym (chain-tied n p x y ys c).0 ∙ ap n h)
+      rw (gone, out) (sym c.0.0 ∙ ap n h)
 
   -- the last of those that are left, where the last is taken
   tail-left : (t x : ℕ) (xs : List ℕ) → Chain n p (x ∷ xs) → times t (x ∷ xs) ≡ 1 → last_or x xs ≡ t
@@ -47,10 +48,11 @@ module _ (n p : ℕ → ℕ) where
   -- the links, where it was at an end
   pub chain-end : (line : Line) (t : ℕ) (xs : List ℕ) → Ends line xs → Chain n p xs → times t xs ≡ 1
       → (eqb line.first t || eqb line.last t) ≡ true → Chain n p (but t xs)
+  unfolding Chain
   chain-end line t [] e c one end = absurd (omega (arith, times-nil t))
   chain-end line t (x ∷ xs) e c one end =
       elim (cases_eq x t) [
-        | inl h ↦ rw h (rw (but-head t xs (rw h at (let k : times t (x ∷ xs) ≤ 1 = omega arith in k))) (chain-rest n p x xs c))
+        | inl h ↦ rw h (rw (but-head t xs (rw h at (let k : times t (x ∷ xs) ≤ 1 = omega arith in k))) c.1)
         | inr o ↦ let at = e.first in let l : line.last ≡ t = grind (arith, nat_tests) in
             chain-but-last n p t line.last (x ∷ xs) c (e.last ∙ l) (omega arith)
       ]

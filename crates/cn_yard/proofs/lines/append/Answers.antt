@@ -1,5 +1,5 @@
 use Rattle.cn_yard.proofs.Common.{arith, ap, set}
-use Rattle.cn_yard.proofs.Appended.{Appends, last-below, on-kept, on-linked}
+use Rattle.cn_yard.proofs.AllLines.{Appends, last-below, on-kept, on-linked}
 use Rattle.cn_yard.proofs.lines.append.Goals.{then-line-gt0, else-line-gt0}
 use Rattle.cn_yard.proofs.lines.append.Goals as goal
 

@@ -1,6 +1,6 @@
 use Rattle.cn_yard.proofs.Common.{◌≡◌, ◌∙◌, ◌<◌, ℕ, List, length, refl, ap, arith, max, Inside, Keeps, Yard, count_of, lists_of, moved, wire_of}
 use Rattle.cn_yard.proofs.Bodies.{Relinked, Renamed, admits-renamed, after, free-read, keeps-relinked, keeps-renamed, relinked-by, renamed-by, with_records}
-use Rattle.cn_yard.proofs.Bare.{closed, wires-are}
+use Rattle.cn_yard.proofs.Wires.{closed, wires-are}
 use Rattle.cn_yard.proofs.Readers.{kept-count}
 use Rattle.cn_yard.proofs.yard.Yard.admit.Goals.{After-index, After-relink, After-set_client}
 use Rattle.cn_yard.proofs.yard.Yard.admit.Goals as goal

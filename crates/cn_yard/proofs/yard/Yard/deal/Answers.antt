@@ -1,6 +1,6 @@
 use Rattle.cn_yard.proofs.Common.{◌≡◌, ◌<◌, ◌≢◌, ℕ, [], length, sym, ◌∙◌, arith, rules, Deals, out_of, on, Moves}
 use Rattle.cn_yard.proofs.Turns.{begins, dealt, either-out, ends, fewer, goes-on, next-stands}
-use Rattle.cn_yard.proofs.Taken.{IsFirst, first-is, none-first}
+use Rattle.cn_yard.proofs.There.{IsFirst, first-is, none-first}
 use Rattle.cn_yard.proofs.yard.Yard.deal.Goals.{After-wire_of_output, After-yard_laws-in-Some, In_default}
 use Rattle.cn_yard.proofs.yard.Yard.deal.Goals as goal
 

@@ -1,15 +1,13 @@
 use Rattle.cn_yard.proofs.Common.{◌<◌, arith, moved}
 use Rattle.cn_yard.proofs.Bodies.{Relinked, after, keeps-relinked, moves-relinked, relinked-by}
-use Rattle.cn_yard.proofs.Bare.{closed, kept-live, wires-are}
-use Rattle.cn_yard.proofs.Wires.{live}
+use Rattle.cn_yard.proofs.Wires.{closed, kept-live, wires-are}
+use Rattle.cn_yard.proofs.Readers.{live-number}
 use Rattle.cn_yard.proofs.yard.Yard.move_to.Goals.{After-relink}
 use Rattle.cn_yard.proofs.yard.Yard.move_to.Goals as goal
 
 pub relink-requires-clause-number : goal.relink-requires-clause-number
-relink-requires-clause-number c =
-    let (order, k) = kept-live c.self.inside c.args.token c.self.invariant (rw (← c.self.view_is) at c.requires.live) in
-    let y = c.self.inside in
-    rw (c.number.ensures, c.deref_mut.ensures.value) (live y order k c.args.token (rw (← c.self.view_is) at c.requires.live)).0
+relink-requires-clause-number c = rw (c.number.ensures, c.deref_mut.ensures.value)
+    (live-number c.self.inside c.self.invariant c.args.token (rw (← c.self.view_is) at c.requires.live))
 
 pub relink-requires-clause-wire : goal.relink-requires-clause-wire
 relink-requires-clause-wire c =

@@ -1,15 +1,13 @@
 use Rattle.cn_yard.proofs.Common.{◌≡◌, ◌<◌, length, ap, ◌∙◌, arith, rules, vec_len, get_or_read, with_items_is, with_items, Record, client_of, moved, wire_of, no_record}
 use Rattle.cn_yard.proofs.Bodies.{Relinked, after, keeps-relinked, relinked-by, releases-relinked}
-use Rattle.cn_yard.proofs.Bare.{closed, kept-live}
-use Rattle.cn_yard.proofs.Wires.{live, there-live}
+use Rattle.cn_yard.proofs.Wires.{closed, kept-live, live, there-live}
+use Rattle.cn_yard.proofs.Readers.{live-number}
 use Rattle.cn_yard.proofs.yard.Yard.release.Goals.{After-relink}
 use Rattle.cn_yard.proofs.yard.Yard.release.Goals as goal
 
 pub relink-requires-clause-number : goal.relink-requires-clause-number
-relink-requires-clause-number c =
-    let (order, k) = kept-live c.self.inside c.args.token c.self.invariant (rw (← c.self.view_is) at c.requires) in
-    rw (c.number-number.ensures, c.deref_mut.ensures.value)
-    (live c.self.inside order k c.args.token (rw (← c.self.view_is) at c.requires)).0
+relink-requires-clause-number c = rw (c.number-number.ensures, c.deref_mut.ensures.value)
+    (live-number c.self.inside c.self.invariant c.args.token (rw (← c.self.view_is) at c.requires))
 
 pub relink-requires-clause-wire : goal.relink-requires-clause-wire
 relink-requires-clause-wire c =
@@ -23,10 +21,9 @@ relink-requires-clause-lined c =
 
 pub index-requires : goal.index-requires
 index-requires c =
-    let (order, k) = kept-live c.self.inside c.args.token c.self.invariant (rw (← c.self.view_is) at c.requires) in
     let y = c.self.inside in
-    let counted : vec_len y.records ≡ length y.records.items = search rules in
-    rw c.number-number.ensures (rw (← counted) at (live y order k c.args.token (rw (← c.self.view_is) at c.requires)).0)
+    let within = live-number y c.self.invariant c.args.token (rw (← c.self.view_is) at c.requires) in
+    omega (arith, c.number-number.ensures)
 
 relinked : (c : After-relink)
     → Relinked c.self.inside (after c.self.inside c.relink.new.records c.relink.new.lines c.relink.new.marks) c.args.token

@@ -1,9 +1,8 @@
 use Rattle.cn_yard.proofs.Common.{◌≡◌, ◌∙◌, ◌+◌, ◌≤◌, ℕ, List, Vec, Global, refl, ap, arith, MOST_TOKENS, Inside, Keeps, Line, Yard, count_of, lists_of, tokens_in, yard_of}
 use Rattle.std.proofs.lemmas.Result.{on_err_weaker}
-use Rattle.cn_yard.proofs.Bare.{closed}
+use Rattle.cn_yard.proofs.Wires.{closed}
 use Rattle.cn_yard.proofs.Bodies.{Filled, after-fill, filled, filled-by, filled-lists, room-for, unfilled}
-use Rattle.cn_yard.proofs.Changes.{tokens-same}
-use Rattle.cn_yard.proofs.NewYard.{is-same, lines-made}
+use Rattle.cn_yard.proofs.Changes.{tokens-same, is-same, lines-made}
 use Rattle.cn_yard.proofs.yard.Yard.reserve.Goals.{After-deref_mut-2, After-fill}
 use Rattle.cn_yard.proofs.yard.Yard.reserve.Goals as goal
 
