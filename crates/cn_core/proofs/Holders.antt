@@ -16,15 +16,12 @@ sum-none : (f : ℕ → ℕ) (xs : List ℕ) → ((i : ℕ) → i < length xs �
 sum-none f [] each = refl
 sum-none f (x ∷ xs) each = omega (arith, sum_by-cons f x xs, each 0 (omega arith), sum-none f xs (λ i within. each (suc i) (omega arith)))
 
-same-by : (a b : ℕ) → (a < b → ⊥) → (b < a → ⊥) → a ≡ b
-same-by a b less greater = grind (arith, less, greater)
-
 -- a rising list with the sums of the numbers from a on is those numbers
 rising-is : (a : ℕ) (xs : List ℕ) → ((f : ℕ → ℕ) → sum_by f xs ≡ sum_by f (range_with_len a (length xs))) → AllPairs (λ x y. x ≤ y) xs
     → xs ≡ range_with_len a (length xs)
 rising-is a [] same rising = refl
 rising-is a (x ∷ xs) same rising =
-    let head : x ≡ a = same-by x a below above in
+    let head : x ≡ a = grind (arith, below, above) in
     let rest = rising-is (a + 1) xs (λ f.
     let first : f x ≡ f a = ap f head in
     omega (arith, same f, sum_by-cons f x xs, sum_by-cons f a (range_with_len (a + 1) (length xs))))
