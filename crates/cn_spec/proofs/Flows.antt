@@ -1,8 +1,7 @@
 -- A flow gives each wire a number. The flows of a part of a list of wires are the part of the flows, and no wire is lost.
 use Rattle.cn_spec.proofs.Common.{◌≡◌, ℕ, suc, ◌+◌, ◌*◌, ◌/◌, ◌<◌, true, false, List, [], ◌∷◌, length, map, get_or, refl, sym, ap, ◌∙◌, arith, fill_by_all, get_or-map-range_with_len, length-map-range_with_len, times, entries_at, evens, odds, interleave, a_cochain, b_cochain}
 use Rattle.std.proofs.lemmas.List.{length-map, get_or-map}
-use Rattle.cn_spec.proofs.Pairs.{firsts, seconds, evens-firsts, odds-seconds}
-use Rattle.cn_spec.proofs.Cochains.{in_turn, a-in-turn, b-in-turn}
+use Rattle.cn_spec.proofs.Rows.{firsts, seconds, evens-firsts, odds-seconds, in_turn, a-in-turn, b-in-turn}
 
 -- ---- flows
 
