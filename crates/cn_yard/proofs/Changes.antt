@@ -1,5 +1,5 @@
 -- What callers see when a yard gets its lines, and when a token comes, moves or goes.
-use Rattle.cn_yard.proofs.Common.{max, ◌≡◌, ◌≢◌, ℕ, ◌+◌, ◌-◌, ◌<◌, inl, inr, true, false, eqb, List, [], ◌++◌, length, get_or, refl, sym, ap, ◌∙◌, arith, subst, None, Inside, Keeps, Line, Lists, Record, Yard, cases_eq, cases_lt, client_of, count_of, last_on, lists_of, moved, nat_tests, next_of, on, prev_of, standing, times, tokens_in, wire_of, without, yard_of, append-nil, ext_get_or, sum_below, Admits, Moves, Releases, IsClient, IsLinks, SameBut, with_clients, ◌^◌, ◌/◌, ◌%◌, replicate, bit_at, get_or-replicate, length-replicate, bit_at-zero, line_of, marked, no_line, times-nil, sum-below-zero, empty, Chain, last_or, Ends, IsYard, when, ◌≤◌, cond, eq-eqb, but, Some, ne_eqb, map-append, last_of}
+use Rattle.cn_yard.proofs.Common.{max, ◌≡◌, ◌≢◌, ℕ, ◌+◌, ◌<◌, inl, inr, false, eqb, List, [], ◌++◌, length, get_or, refl, sym, ap, ◌∙◌, arith, subst, Inside, Keeps, Line, Lists, Record, Yard, cases_eq, cases_lt, client_of, count_of, last_on, lists_of, moved, nat_tests, next_of, on, prev_of, standing, times, tokens_in, wire_of, without, yard_of, append-nil, ext_get_or, sum_below, Admits, Moves, Releases, IsClient, IsLinks, SameBut, with_clients, ◌^◌, ◌/◌, ◌%◌, replicate, bit_at, get_or-replicate, length-replicate, bit_at-zero, line_of, marked, no_line, times-nil, sum-below-zero, empty, Chain, last_or, Ends, IsYard, when, ◌≤◌, cond, eq-eqb, but, Some, ne_eqb, map-append, last_of}
 use Rattle.cn_yard.proofs.Chains.{chain-same, times-but}
 use Rattle.cn_yard.proofs.Keyed.{lookup-added, lookup-gone, lookup-last, lookup-without, times-absent, without-same}
 use Rattle.cn_yard.proofs.There.{standing-added, standing-none, standing-same}

@@ -1,5 +1,5 @@
 -- Where the tokens of a yard stand, and the first token of a wire.
-use Rattle.cn_yard.proofs.Common.{◌≡◌, ◌≢◌, ℕ, zero, suc, ◌<◌, ◌≤◌, inl, inr, eqb, List, [], length, refl, sym, ap, ◌∙◌, arith, Option, Some, None, Lists, cases_eq, cases_lt, count_by, lookup, nat_tests, on, standing, times_in, tokens_in, without, ne_eqb, eq-eqb, sum_by, get_or_past, sum-below-part, sum-below-parts, IsThere, here_or, standing_below, nat_eq, true, false, cond, ◌+◌, Bool, ◌∷◌, ◌++◌, Yard, last_on, sum_by-append, sum_by-cons, sum_below, when, sum-below-one, sum-below-shift, sum-below-zero, first_of}
+use Rattle.cn_yard.proofs.Common.{◌≡◌, ◌≢◌, ℕ, zero, suc, ◌<◌, ◌≤◌, inl, inr, eqb, List, [], length, refl, sym, ap, ◌∙◌, arith, Option, Some, None, Lists, cases_eq, cases_lt, count_by, lookup, nat_tests, on, standing, times_in, tokens_in, without, eq-eqb, sum_by, get_or_past, sum-below-part, sum-below-parts, IsThere, here_or, standing_below, nat_eq, true, false, cond, ◌+◌, ◌∷◌, ◌++◌, Yard, last_on, sum_by-append, sum_by-cons, sum_below, when, sum-below-one, sum-below-shift, sum-below-zero, first_of}
 use Rattle.cn_yard.proofs.Keyed.{found-once, without-none, without-one, last_on-sum, without-same}
 
 pub first : {a b : ℕ × ℕ} → Some a ≡ Some b → a.0 ≡ b.0

@@ -1,5 +1,5 @@
 -- A record is taken off its line.
-use Rattle.cn_yard.proofs.Common.{◌≡◌, ◌≢◌, ℕ, ◌-◌, ◌<◌, ◌≤◌, inl, inr, true, false, cond, eqb, List, [], ◌∷◌, length, set, refl, sym, ap, ◌∙◌, arith, subst, ◌||◌, Line, Record, but, cases_eq, count_of, line_of, nat_tests, next_of, no_line, prev_of, times, times-nil, wire_of, cases_Bool, get_or-set_other, get_or-set_same, length-set, Chain, head_or, last_or, Ends, IsOff, Linked, line_without, IsLink, times-cons}
+use Rattle.cn_yard.proofs.Common.{◌≡◌, ◌≢◌, ℕ, ◌<◌, ◌≤◌, inl, inr, true, false, cond, eqb, List, [], ◌∷◌, length, set, refl, sym, ap, ◌∙◌, arith, subst, ◌||◌, Line, Record, but, cases_eq, count_of, line_of, nat_tests, next_of, no_line, prev_of, times, times-nil, wire_of, cases_Bool, get_or-set_other, get_or-set_same, length-set, Chain, head_or, last_or, Ends, IsOff, Linked, line_without, IsLink, times-cons}
 use Rattle.cn_yard.proofs.Chains.{but-cons, but-head, but-out, chain-but, chain-but-last, chain-same, last-but, last-in, last-left, length-but, next-in, prev-in, tail_of, times-but}
 
 -- ---- what is left of one line, with its links n and p

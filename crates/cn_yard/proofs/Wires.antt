@@ -1,7 +1,7 @@
 -- What stands on the wires of a yard, which has lines or is bare.
-use Rattle.cn_yard.proofs.Common.{◌≡◌, ◌⊎◌, inl, inr, ℕ, ◌<◌, ◌≤◌, List, [], length, refl, sym, ap, ◌∙◌, arith, None, Inside, Keeps, Line, Lists, Yard, cases_lt, client_of, count_by, count_of, lists_of, on, standing, times_in, tokens_in, yard_of, IsSome, nat_eq, replicate, range_with_len, ext_get_or, get_or_past, get_or-replicate, length-map, length-replicate, get_or-map-range_with_len, length-range_with_len, sum-below-zero, empty, walk, IsBare, IsYard, walked, with_clients, ◌≢◌, zero, suc, ◌+◌, cond, eqb, ltb, ◌∷◌, ◌++◌, Some, but, last_on, line_of, lookup, moved, nat_tests, next_of, prev_of, times, times-nil, wire_of, without, map-append, sum_by-cons, sum_below, times-cons, sum-below-next, sum-below-same, IsThere, next_after, Chain, last_of, last_or}
+use Rattle.cn_yard.proofs.Common.{◌≡◌, ◌⊎◌, inl, inr, ℕ, ◌<◌, ◌≤◌, List, [], length, refl, sym, ap, ◌∙◌, arith, None, Inside, Keeps, Line, Lists, Yard, cases_lt, client_of, count_by, count_of, lists_of, on, standing, times_in, tokens_in, yard_of, IsSome, nat_eq, replicate, range_with_len, ext_get_or, get_or_past, get_or-replicate, length-map, length-replicate, get_or-map-range_with_len, length-range_with_len, sum-below-zero, empty, walk, IsBare, IsYard, walked, with_clients, zero, suc, ◌+◌, cond, eqb, ltb, ◌∷◌, Some, but, last_on, line_of, lookup, nat_tests, next_of, prev_of, times, times-nil, wire_of, without, sum_by-cons, sum_below, times-cons, sum-below-next, sum-below-same, IsThere, next_after, Chain, last_of, last_or}
 use Rattle.cn_yard.proofs.There.{standing-none, standing-only, there}
-use Rattle.cn_yard.proofs.Chains.{last-in, times-but, walk-chain}
+use Rattle.cn_yard.proofs.Chains.{last-in, walk-chain}
 
 -- A yard without lines: nobody stands there, and no record is free.
 

@@ -1,4 +1,4 @@
-use Rattle.cn_yard.proofs.Common.{◌≡◌, ◌<◌, length, ap, ◌∙◌, arith, rules, vec_len, get_or_read, with_items_is, with_items, Record, client_of, moved, wire_of, no_record}
+use Rattle.cn_yard.proofs.Common.{◌≡◌, ◌<◌, length, ap, ◌∙◌, arith, get_or_read, with_items_is, with_items, Record, client_of, moved, wire_of, no_record}
 use Rattle.cn_yard.proofs.Bodies.{Relinked, after, keeps-relinked, relinked-by, releases-relinked}
 use Rattle.cn_yard.proofs.Wires.{closed, kept-live, live, there-live}
 use Rattle.cn_yard.proofs.Readers.{live-number}
