@@ -2,9 +2,9 @@
 use Rattle.cn_core.proofs.Common.{◌≡◌, ℕ, ◌+◌, ◌-◌, ◌%◌, ◌/◌, ◌<◌, ◌≤◌, inl, inr, List, [], ◌∷◌, length, refl, ap, arith, sym, ◌∙◌, Option, Some, nat_tests, Balancer, Carried, End, Enter, Event, Exit, Network, On, Position, Step, cases_eq, cases_lt, end_of, eq-eqb, name_of, ne_eqb, position_after, position_past, get_or_past, exit_of-name_of, name-below, IsNetwork, Table, Holds, HasOneHolder, end_at, steps_before, HasShares, Bool, true, false, subst, None, nat_le, if◌then◌else◌, is_some, IsCore, State, after_carry, carried_by, inside_in, position_in, share, start, state_after_enter, state_after_step, MOST_CARRIED, MOST_CLIENTS, NoSuchEntry, AlreadyIn, EpochFull, Entered, EnterRefused, Agrees, AreEpochs, ByHistories, IsHistory, enters_of, is_accepted, step_answer}
 use Rattle.std.specs.Option.{option_map}
 use Rattle.cn_core.proofs.StateLemmas.{stands-at}
-use Rattle.cn_core.proofs.TightLemmas.{IsCore-after_carry, visits-after-carry}
+use Rattle.cn_core.proofs.TightLemmas.{IsCore-after_carry, bounded-state, visits-after-carry}
 use Rattle.cn_core.proofs.HistoryLemmas.{Agrees-after_carry, Agrees-start, Agrees-state_after_step, AgreesAfter-state_after_enter, inside-by_history, inside-or-named, after-step}
-use Rattle.cn_core.proofs.LedgerLemmas.{IsCore-start, IsCore-state_after_enter, IsCore-state_after_step}
+use Rattle.cn_core.proofs.LedgerLemmas.{IsCore-start, IsCore-state_after_enter, IsCore-state_after_step, sound-by_history}
 
 -- ---- by any history, whether its events were accepted or not, after what is carried
 
@@ -212,3 +212,8 @@ pub one-holder-after : (network : Network) (h : List Event) (earlier : List (Lis
     → HasOneHolder network.table h (carried_by network.table earlier)
 one-holder-after network h earlier is epochs few =
     one-holder network (carried_by network.table earlier) is (shares-of network earlier is epochs few) h
+
+-- what the laws say
+pub ruleset holder_laws = (one-holder-after)
+
+pub ruleset state_laws = (sound-by_history, bounded-state, shares-by_history)

@@ -219,3 +219,5 @@ sound-passages table (Step c ∷ history) carried b n =
     one-more (once_below (carried.steps (Balancer b)) n) (times_passed table history carried b n)
     (steps_before table history carried (Balancer b)) n
     (is_same_end (Balancer b) (end_at table (position_after table history carried c))) (sound-passages table history carried b n)
+
+pub ruleset inside_laws = (inside-by_history)
