@@ -54,9 +54,9 @@ cases-zero zero = inl refl
 cases-zero (suc n) = inr (omega arith)
 
 -- then the records but the links, and the counts, are as stated
-pub on-kept : (records : List Record) (lines : List Line) (mid records' : List Record) (lines' : List Line) (t to : ℕ)
+pub on-kept : {records mid records' : List Record} {lines lines' : List Line} {t to : ℕ}
     → to < length lines → Appends records lines mid records' lines' t to → IsOn records lines records' lines' t to
-on-kept records lines mid records' lines' t to h ap' =
+on-kept {records} {mid} {records'} {lines} {lines'} {t} {to} h ap' =
     let new = line_with (line_of lines to) t in
     let which = cases-zero (count_of lines to) in
     let put = ap'.records_are in
@@ -73,12 +73,11 @@ on-kept records lines mid records' lines' t to h ap' =
     }
 
 -- and the lines run through the lists with the number at the end of one
-pub on-linked : (records : List Record) (lines : List Line) (mid records' : List Record) (lines' : List Line) (order : ℕ → List ℕ)
-    (t to : ℕ)
+pub on-linked : {records mid records' : List Record} {lines lines' : List Line} {order : ℕ → List ℕ} {t to : ℕ}
     → Linked records lines order → OffLine lines order t → t < length records → to < length lines
     → Appends records lines mid records' lines' t to → IsOn records lines records' lines' t to
     → Linked records' lines' (put_last order t to)
-on-linked records lines mid records' lines' order t to l off ht h ap' kept =
+on-linked {records} {mid} {records'} {lines} {lines'} {order} {t} {to} l off ht h ap' kept =
     let new = line_with (line_of lines to) t in
     let which = cases-zero (count_of lines to) in
     let put = ap'.records_are in
@@ -143,9 +142,9 @@ sum-more n w f g each h =
     omega (arith, same, sum-below-pick n w 1 f h)
 
 -- no more stand on a line than there are records
-pub count-le : (records : List Record) (lines : List Line) (order : ℕ → List ℕ) → IsLinks records lines order → (u : ℕ)
+pub count-le : {records : List Record} {lines : List Line} {order : ℕ → List ℕ} → IsLinks records lines order → (u : ℕ)
     → u < length lines → count_of lines u ≤ length records
-count-le records lines order is u h =
+count-le {records} {lines} {order} is u h =
     let p = sum-below-part (length lines) u (λ v. length (order v)) h in
     omega (arith, (is.linked.ends u h).count, is.all)
 
@@ -160,11 +159,11 @@ pub record ButOne (records : List Record) (lines : List Line) (order : ℕ → L
   pub all : sum_below (length lines) (λ u. length (order u)) + 1 ≡ length records
 
 -- a record is taken off its line
-pub but-one : (records : List Record) (lines : List Line) (records' : List Record) (lines' : List Line) (order : ℕ → List ℕ) (t : ℕ)
+pub but-one : {records records' : List Record} {lines lines' : List Line} {order : ℕ → List ℕ} {t : ℕ}
     → IsLinks records lines order → t < length records
     → IsOff records lines records' lines' t → Linked records' lines' (λ u. but t (order u))
     → ButOne records' lines' (λ u. but t (order u)) t
-but-one records lines records' lines' order t is h kept l =
+but-one {records} {records'} {lines} {lines'} {order} {t} is h kept l =
     let w = wire_of records t in
     record {
       linked = l;
@@ -180,9 +179,9 @@ but-one records lines records' lines' order t is h kept l =
     }
 
 -- a record that is added is on no line
-pub new-one : (records : List Record) (lines : List Line) (order : ℕ → List ℕ) (x : Record) → IsLinks records lines order
-    → ButOne (records ++ x ∷ []) lines order (length records)
-new-one records lines order x is =
+pub new-one : {records : List Record} {lines : List Line} {order : ℕ → List ℕ} (x : Record)
+    → IsLinks records lines order → ButOne (records ++ x ∷ []) lines order (length records)
+new-one {records} {lines} {order} x is =
     let many = length_push records x in
     let l = is.linked in
     record {
@@ -208,11 +207,11 @@ new-one records lines order x is =
     wire n h = ap (λ (r : Record). r.wire) (same n h)
 
 -- and it is put last on one
-pub but-none : (records : List Record) (lines : List Line) (records' : List Record) (lines' : List Line) (order : ℕ → List ℕ) (t to : ℕ)
+pub but-none : {records records' : List Record} {lines lines' : List Line} {order : ℕ → List ℕ} {t to : ℕ}
     → ButOne records lines order t → to < length lines
     → IsOn records lines records' lines' t to → Linked records' lines' (put_last order t to)
     → IsLinks records' lines' (put_last order t to)
-but-none records lines records' lines' order t to is h kept l =
+but-none {records} {records'} {lines} {lines'} {order} {t} {to} is h kept l =
     record {
       linked = l;
       within = λ n k. rw (kept.wire n, kept.as_many) (grind (arith, nat_tests, is.within n (rw kept.len at k)));
@@ -239,19 +238,18 @@ marks-one lines lines' words words' t b has each as_many same e u h =
 -- ---- a record is added, and put last on a line
 
 -- what is needed of the code: one record more, and then that it is put last
-pub added : (records : List Record) (lines : List Line) (mid records' : List Record) (lines' : List Line) (order : ℕ → List ℕ) (x : Record)
-    (t to : ℕ)
+pub added : {records mid records' : List Record} {lines lines' : List Line} {order : ℕ → List ℕ} {t to : ℕ} (x : Record)
     → IsLinks records lines order → mid ≡ records ++ x ∷ [] → t ≡ length records → to < length lines
     → IsOn mid lines records' lines' t to
     → (Linked mid lines order → OffLine lines order t → Linked records' lines' (put_last order t to))
     → IsLinks records' lines' (put_last order (length records) to)
-added records lines mid records' lines' order x t to is m n h kept linked =
-    let one : ButOne mid lines order t = rw (m, n) (new-one records lines order x is) in
-    rw (← n) (but-none mid lines records' lines' order t to one h kept (linked one.linked one.off))
+added {records} {mid} {records'} {lines} {lines'} {order} {t} {to} x is m n h kept linked =
+    let one : ButOne mid lines order t = rw (m, n) (new-one x is) in
+    rw (← n) (but-none one h kept (linked one.linked one.off))
 
-pub added-kept : (records : List Record) (lines : List Line) (mid records' : List Record) (lines' : List Line) (x : Record) (t to : ℕ)
+pub added-kept : {records mid records' : List Record} {lines lines' : List Line} {t to : ℕ} (x : Record)
     → mid ≡ records ++ x ∷ [] → IsOn mid lines records' lines' t to → IsAdded records lines records' lines' to
-added-kept records lines mid records' lines' x t to m kept = record {
+added-kept {records} {mid} {records'} {lines} {lines'} {t} {to} x m kept = record {
   len = kept.len ∙ ap length m ∙ length_push records x;
   as_many = kept.as_many;
   client = λ n h. kept.client n ∙ rw m (ap (λ (r : Record). r.client) (get_or_append_left records (x ∷ []) no_record n h));
@@ -259,9 +257,9 @@ added-kept records lines mid records' lines' x t to m kept = record {
 }
 
 -- one more is added than before
-pub more-add : (a : List Record) (l : List Line) (b : List Record) (m : List Line) (c : List Record) (n : List Line) (to : ℕ)
+pub more-add : {a b c : List Record} {l m n : List Line} {to : ℕ}
     → IsMore a l b m to → IsAdded b m c n to → IsMore a l c n to
-more-add a l b m c n to is added =
+more-add {a} {b} {c} {l} {m} {n} {to} is added =
     let count : count_of n to ≡ count_of m to + 1 = let one = added.count to in grind (arith, nat_tests) in record {
       more = omega (arith, is.more, added.len);
       len = omega (arith, is.len, added.len);

@@ -140,16 +140,15 @@ after y records lines marks = record {
   marks = with_items y.marks marks;
 }
 
-pub relinked-by : (y : Inside) (records : List Record) (lines : List Line) (marks : List ℕ) (records' : List Record) (lines' : List Line)
-    (marks' : List ℕ) (n t to : ℕ)
-    → n ≡ t
+pub relinked-by : (y : Inside) {records records' : List Record} {lines lines' : List Line} {marks : List ℕ}
+    (marks' : List ℕ) {n t to : ℕ} → n ≡ t
     → records ≡ y.records.items → lines ≡ y.lines.items → marks ≡ y.marks.items → length records ≡ vec_len y.records
     → length lines ≡ vec_len y.lines → length marks ≡ vec_len y.marks
     → IsMove records lines records' lines' n to
     → ((order : ℕ → List ℕ) → IsLined records lines marks order → IsLined records' lines' marks' (moved order n to))
     → length marks' ≡ length marks
     → Relinked y (after y records' lines' marks') t to
-relinked-by y records lines marks records' lines' marks' n t to e r l m rl ll ml move lined words =
+relinked-by y {records} {records'} {lines} {lines'} {marks} marks' {n} {t} {to} e r l m rl ll ml move lined words =
     let a : (with_items y.records records').items ≡ records' = with_items_is y.records records' (move.len ∙ rl) in
     let b : (with_items y.lines lines').items ≡ lines' = with_items_is y.lines lines' (move.as_many ∙ ll) in
     let d : (with_items y.marks marks').items ≡ marks' = with_items_is y.marks marks' (words ∙ ml) in

@@ -111,10 +111,10 @@ pub record Unlinks (records : List Record) (lines : List Line) (records' : List 
       (line_without (line_of lines (wire_of records t)) t (prev_of records t) (next_of records t))
 
 -- then the records but the links, and the counts, are as stated
-pub off-kept : (records : List Record) (lines : List Line) (records' : List Record) (lines' : List Line) (t : ℕ)
+pub off-kept : {records records' : List Record} {lines lines' : List Line} {t : ℕ}
     → wire_of records t < length lines → 1 ≤ count_of lines (wire_of records t)
     → Unlinks records lines records' lines' t → IsOff records lines records' lines' t
-off-kept records lines records' lines' t h some un =
+off-kept {records} {records'} {lines} {lines'} {t} h some un =
     let w = wire_of records t in
     let new = line_without (line_of lines w) t (prev_of records t) (next_of records t) in
     let which = cases_Bool (eqb (line_of lines w).first t || eqb (line_of lines w).last t) in
@@ -130,11 +130,11 @@ off-kept records lines records' lines' t h some un =
     }
 
 -- and the lines run through the lists without the number
-pub off-linked : (records : List Record) (lines : List Line) (records' : List Record) (lines' : List Line) (order : ℕ → List ℕ) (t : ℕ)
+pub off-linked : {records records' : List Record} {lines lines' : List Line} {order : ℕ → List ℕ} {t : ℕ}
     → Linked records lines order → wire_of records t < length lines → times t (order (wire_of records t)) ≡ 1
     → Unlinks records lines records' lines' t → IsOff records lines records' lines' t
     → Linked records' lines' (λ u. but t (order u))
-off-linked records lines records' lines' order t l h one un kept =
+off-linked {records} {records'} {lines} {lines'} {order} {t} l h one un kept =
     let w = wire_of records t in
     let n = next_of records in
     let p = prev_of records in
@@ -188,16 +188,16 @@ off-linked records lines records' lines' order t l h one un kept =
 times-le : (t : ℕ) (xs : List ℕ) → times t xs ≤ length xs
 times-le t xs = omega (arith, length-but t xs)
 
-pub some-there : (records : List Record) (lines : List Line) (order : ℕ → List ℕ) → Linked records lines order → (t u : ℕ)
-    → u < length lines → 1 ≤ times t (order u) → 1 ≤ count_of lines u
-some-there records lines order l t u h some = omega (arith, (l.ends u h).count, times-le t (order u))
+pub some-there : {records : List Record} {lines : List Line} {order : ℕ → List ℕ} → Linked records lines order
+    → (t u : ℕ) → u < length lines → 1 ≤ times t (order u) → 1 ≤ count_of lines u
+some-there {records} {lines} {order} l t u h some = omega (arith, (l.ends u h).count, times-le t (order u))
 
 -- the neighbours of a record that is at neither end are records
-pub near-below : (records : List Record) (lines : List Line) (order : ℕ → List ℕ) → Linked records lines order → (t : ℕ)
+pub near-below : {records : List Record} {lines : List Line} {order : ℕ → List ℕ} → Linked records lines order → (t : ℕ)
     → wire_of records t < length lines → times t (order (wire_of records t)) ≡ 1
     → (eqb (line_of lines (wire_of records t)).first t || eqb (line_of lines (wire_of records t)).last t) ≡ false
     → (prev_of records t < length records) × (next_of records t < length records)
-near-below records lines order l t h one mid =
+near-below {records} {lines} {order} l t h one mid =
     let w = wire_of records t in
     let near = neighbours (next_of records) (prev_of records) (line_of lines w) t (order w) (l.ends w h) (l.chain w h) one mid in
     (l.below (prev_of records t) w h near.0, l.below (next_of records t) w h near.1)

@@ -50,10 +50,8 @@ moved-yard c = after c.self.inside c.relink.new.records c.relink.new.lines c.rel
 
 relinked : (c : After-relink) → Relinked c.self.inside (moved-yard c) c.index.result.now.last c.args.wire
 relinked c =
-    relinked-by c.self.inside c.deref_mut.result.now c.deref_mut-2.result.now c.deref_mut-3.result.now c.relink.new.records
-    c.relink.new.lines c.relink.new.marks c.index.result.now.last c.index.result.now.last c.args.wire refl
-    c.deref_mut.ensures.value c.deref_mut-2.ensures.value c.deref_mut-3.ensures.value c.deref_mut.ensures.len c.deref_mut-2.ensures.len
-    c.deref_mut-3.ensures.len
+    relinked-by c.self.inside c.relink.new.marks refl c.deref_mut.ensures.value c.deref_mut-2.ensures.value
+    c.deref_mut-3.ensures.value c.deref_mut.ensures.len c.deref_mut-2.ensures.len c.deref_mut-3.ensures.len
     c.relink.ensures.kept c.relink.ensures.lined c.relink.ensures.words
 
 pub set_client-requires : goal.set_client-requires

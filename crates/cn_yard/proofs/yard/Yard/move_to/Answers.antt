@@ -24,10 +24,8 @@ relink-requires-clause-lined c =
 relinked : (c : After-relink)
     → Relinked c.self.inside (after c.self.inside c.relink.new.records c.relink.new.lines c.relink.new.marks) c.args.token c.args.wire
 relinked c =
-    relinked-by c.self.inside c.deref_mut.result.now c.deref_mut-2.result.now c.deref_mut-3.result.now c.relink.new.records
-    c.relink.new.lines c.relink.new.marks c.number.result c.args.token c.args.wire c.number.ensures
-    c.deref_mut.ensures.value c.deref_mut-2.ensures.value c.deref_mut-3.ensures.value c.deref_mut.ensures.len c.deref_mut-2.ensures.len
-    c.deref_mut-3.ensures.len
+    relinked-by c.self.inside c.relink.new.marks c.number.ensures c.deref_mut.ensures.value c.deref_mut-2.ensures.value
+    c.deref_mut-3.ensures.value c.deref_mut.ensures.len c.deref_mut-2.ensures.len c.deref_mut-3.ensures.len
     c.relink.ensures.kept c.relink.ensures.lined c.relink.ensures.words
 
 pub invariant_of-self : goal.invariant_of-self

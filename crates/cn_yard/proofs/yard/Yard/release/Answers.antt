@@ -29,11 +29,9 @@ relinked : (c : After-relink)
     → Relinked c.self.inside (after c.self.inside c.relink.new.records c.relink.new.lines c.relink.new.marks) c.args.token
     c.self.inside.wires
 relinked c =
-    relinked-by c.self.inside c.deref_mut.result.now c.deref_mut-2.result.now c.deref_mut-3.result.now c.relink.new.records
-    c.relink.new.lines c.relink.new.marks c.number-number.result c.args.token c.self.inside.wires c.number-number.ensures
-    c.deref_mut.ensures.value c.deref_mut-2.ensures.value c.deref_mut-3.ensures.value c.deref_mut.ensures.len c.deref_mut-2.ensures.len
-    c.deref_mut-3.ensures.len
-    c.relink.ensures.kept c.relink.ensures.lined c.relink.ensures.words
+    relinked-by c.self.inside c.relink.new.marks c.number-number.ensures c.deref_mut.ensures.value
+    c.deref_mut-2.ensures.value c.deref_mut-3.ensures.value c.deref_mut.ensures.len c.deref_mut-2.ensures.len
+    c.deref_mut-3.ensures.len c.relink.ensures.kept c.relink.ensures.lined c.relink.ensures.words
 
 pub invariant_of-self : goal.invariant_of-self
 invariant_of-self c =
