@@ -1,5 +1,5 @@
 -- What callers see when a yard gets its lines, and when a token comes, moves or goes.
-use Rattle.cn_yard.proofs.Common.{max, ◌≡◌, ◌≢◌, ℕ, ◌+◌, ◌<◌, inl, inr, false, eqb, List, [], ◌++◌, length, get_or, refl, sym, ap, ◌∙◌, arith, subst, Inside, Keeps, Line, Lists, Record, Yard, cases_eq, cases_lt, client_of, count_of, last_on, lists_of, moved, nat_tests, next_of, on, prev_of, standing, times, tokens_in, wire_of, without, yard_of, append-nil, ext_get_or, sum_below, Admits, Moves, Releases, IsClient, IsLinks, SameBut, with_clients, ◌^◌, ◌/◌, ◌%◌, replicate, bit_at, get_or-replicate, length-replicate, bit_at-zero, line_of, marked, no_line, times-nil, sum-below-zero, empty, Chain, last_or, Ends, IsYard, when, ◌≤◌, cond, eq-eqb, but, Some, ne_eqb, map-append, last_of}
+use Rattle.cn_yard.proofs.Common.{max, ◌≡◌, ◌≢◌, ℕ, ◌+◌, ◌<◌, inl, inr, false, eqb, List, [], ◌++◌, length, refl, sym, ap, ◌∙◌, arith, subst, Inside, Keeps, Line, Lists, Record, Yard, cases_eq, cases_lt, client_of, count_of, last_on, lists_of, moved, nat_tests, next_of, on, prev_of, standing, times, tokens_in, wire_of, without, yard_of, append-nil, ext_get_or, Admits, Moves, Releases, IsClient, IsLinks, SameBut, with_clients, ◌^◌, ◌/◌, ◌%◌, replicate, bit_at, get_or-replicate, length-replicate, bit_at-zero, line_of, marked, no_line, times-nil, sum-below-zero, empty, Chain, last_or, Ends, IsYard, when, ◌≤◌, cond, eq-eqb, but, Some, ne_eqb, map-append, last_of}
 use Rattle.cn_yard.proofs.Chains.{chain-same, times-but}
 use Rattle.cn_yard.proofs.Keyed.{lookup-added, lookup-gone, lookup-last, lookup-without, times-absent, without-same}
 use Rattle.cn_yard.proofs.There.{standing-added, standing-none, standing-same}
@@ -41,10 +41,6 @@ lists-same y z order order' k k' wires same clients =
     ∙ clients-same (client_of y.records.items) (client_of z.records.items) (order u)
     (λ n i. clients n (k.lined.links.linked.below n u (omega arith) i))
     ∙ sym (on-wire y order k u l))
-
--- the same lists have as many tokens
-pub tokens-same : (old new : Lists) → new ≡ old → tokens_in new ≡ tokens_in old
-tokens-same old new e = ap (λ l. sum_below (length l) (λ u. length (get_or l u []))) e
 
 -- ---- a record is moved from line to line
 
@@ -237,8 +233,8 @@ view-same y z w r l = rw (w, r, l) refl
 pub is-same : (y z : Inside) → z.wires ≡ y.wires → z.records.items ≡ y.records.items → z.lines.items ≡ y.lines.items
     → z.marks.items ≡ y.marks.items → IsYard y → IsYard z
 is-same y z w r l m is = elim (opened y is) [
-  | inl b ↦ closed-bare z (record { records = r ∙ b.records; lines = l ∙ b.lines; marks = m ∙ b.marks })
-  | inr k ↦ closed z k.0 (keeps-same y z k.0 w r l m k.1)
+  | inl b ↦ closed-bare (record { records = r ∙ b.records; lines = l ∙ b.lines; marks = m ∙ b.marks })
+  | inr k ↦ closed (keeps-same y z k.0 w r l m k.1)
 ]
 
 -- a yard with its lines, which a caller sees as the one before

@@ -10,13 +10,13 @@ pub opened : (y : Inside) → IsYard y → IsBare y ⊎ ((order : ℕ → List �
 unfolding IsYard
 opened y is = is
 
-pub closed : (y : Inside) (order : ℕ → List ℕ) → Keeps y order → IsYard y
+pub closed : {y : Inside} {order : ℕ → List ℕ} → Keeps y order → IsYard y
 unfolding IsYard
-closed y order k = inr (order, k)
+closed {y} {order} k = inr (order, k)
 
-pub closed-bare : (y : Inside) → IsBare y → IsYard y
+pub closed-bare : {y : Inside} → IsBare y → IsYard y
 unfolding IsYard
-closed-bare y b = inl b
+closed-bare {y} b = inl b
 
 -- there are as many lists as wires, and nobody stands beyond
 pub wires-are : (y : Inside) → length (lists_of y) ≡ y.wires

@@ -1,4 +1,4 @@
-use Rattle.cn_yard.proofs.Common.{◌<◌, arith, moved}
+use Rattle.cn_yard.proofs.Common.{arith}
 use Rattle.cn_yard.proofs.Bodies.{Relinked, after, keeps-relinked, moves-relinked, relinked-by}
 use Rattle.cn_yard.proofs.Wires.{closed, kept-live, wires-are}
 use Rattle.cn_yard.proofs.Readers.{live-number}
@@ -31,17 +31,11 @@ relinked c =
 pub invariant_of-self : goal.invariant_of-self
 invariant_of-self c =
     let (order, k) = kept-live c.self.inside c.args.token c.self.invariant (rw (← c.self.view_is) at c.requires.live) in
-    let y = c.self.inside in
-    let z = after y c.relink.new.records c.relink.new.lines c.relink.new.marks in
-    closed z (moved order c.args.token c.args.wire)
-    (keeps-relinked y z order c.args.token c.args.wire k (relinked (goal.at.invariant_of-self c).After-relink))
+    closed (keeps-relinked k (relinked (goal.at.invariant_of-self c).After-relink))
 
 pub returns : goal.returns
 returns c from client stands =
     let (order, k) = kept-live c.self.inside c.args.token c.self.invariant (rw (← c.self.view_is) at c.requires.live) in
-    let y = c.self.inside in
-    let z = after y c.relink.new.records c.relink.new.lines c.relink.new.marks in
-    let h : c.args.wire < y.wires = rw (← c.self.view_is, wires-are y) at c.requires.wire in
+    let h = rw (← c.self.view_is, wires-are c.self.inside) at c.requires.wire in
     rw (← c.self.view_is)
-    (moves-relinked y z order c.args.token c.args.wire from client k (relinked (goal.at.returns c).After-relink) h
-    (rw (← c.self.view_is) at stands))
+    (moves-relinked k (relinked (goal.at.returns c).After-relink) h (rw (← c.self.view_is) at stands))

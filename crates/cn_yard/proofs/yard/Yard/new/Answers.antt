@@ -7,7 +7,7 @@ made wires records lines marks = record { wires = wires; records = records; line
 
 pub invariant_of-result : goal.invariant_of-result
 invariant_of-result c =
-    closed-bare _
+    closed-bare
     (record { records = c.new.ensures.items; lines = c.new-2.ensures.items; marks = c.new-3.ensures.items })
 
 pub returns-clause-yard : goal.returns-clause-yard
