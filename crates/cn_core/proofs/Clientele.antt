@@ -134,11 +134,11 @@ stands-for y (e ∷ names) client token all found = elim (cases_eq client e.0) [
 ]
 
 -- a client comes in with a token
-pub come : (y z : Yard) (names : List (ℕ × Standing)) (client token wire : ℕ) → Admits y z token client wire
+pub come : {y z : Yard} {names : List (ℕ × Standing)} {client token wire : ℕ} → Admits y z token client wire
     → IsPlaced (record { yard = y; names = names }) → standing_of_client names client ≡ None
     → (placed z.lists (names ++ (client, Walking token) ∷ []) ≡ placed y.lists names ++ (client, On wire) ∷ [])
     × IsPlaced (record { yard = z; names = names ++ (client, Walking token) ∷ [] })
-come y z names client token wire a is absent =
+come {y} {z} {names} {client} {token} {wire} a is absent =
     let now : standing z.lists token ≡ Some (wire, client) = a.standing_now token ∙ rw (eq-eqb token token refl) refl in
     let all : All (StaysFor y.lists z.lists) names = λ k d h. each (get_or names k d) (is.stand k d h) in (
       map-append (λ (e : ℕ × Standing). (e.0, position_by z.lists e.1)) names ((client, Walking token) ∷ [])
@@ -160,11 +160,11 @@ come y z names client token wire a is absent =
         fresh (Named name) h q = cc
 
 -- a client's token goes to another wire
-pub go : (y z : Yard) (names : List (ℕ × Standing)) (client token wire : ℕ)
+pub go : {y z : Yard} {names : List (ℕ × Standing)} (client : ℕ) {token wire : ℕ}
     → ((from who : ℕ) → standing y.lists token ≡ Some (from, who) → Moves y z token who wire)
     → IsPlaced (record { yard = y; names = names }) → standing_of_client names client ≡ Some (Walking token)
     → (placed z.lists names ≡ with_position (placed y.lists names) client (On wire)) × IsPlaced (record { yard = z; names = names })
-go y z names client token wire moves is found =
+go {y} {z} {names} client {token} {wire} moves is found =
     let (from, stands) = stands-for y.lists names client token is.stand found in
     let m = moves from client stands in
     let spares = spared y.lists z.lists client token from stands
@@ -176,11 +176,11 @@ go y z names client token wire moves is found =
     (rw same at one, record { stand = rw same at all; once = is.once; walking = m.tokens ∙ is.walking })
 
 -- a client leaves with a name
-pub leave : (y z : Yard) (names : List (ℕ × Standing)) (client token name : ℕ) → Releases y z token
+pub leave : {y z : Yard} {names : List (ℕ × Standing)} (client name : ℕ) {token : ℕ} → Releases y z token
     → IsPlaced (record { yard = y; names = names }) → standing_of_client names client ≡ Some (Walking token)
     → (placed z.lists (with_standing names client (Named name)) ≡ with_position (placed y.lists names) client (Holds name))
     × IsPlaced (record { yard = z; names = with_standing names client (Named name) })
-leave y z names client token name r is found =
+leave {y} {z} {names} client name {token} r is found =
     let (from, stands) = stands-for y.lists names client token is.stand found in
     let spares = spared y.lists z.lists client token from stands
     (λ other n. r.standing_now other ∙ rw (ne_eqb other token n) refl) in (
@@ -193,10 +193,10 @@ leave y z names client token name r is found =
     )
 
 -- a client that came in and went at once has left no trace
-pub undo : (y z w : Yard) (names : List (ℕ × Standing)) (client token wire : ℕ) → Admits y z token client wire → Releases z w token
+pub undo : {y z w : Yard} {names : List (ℕ × Standing)} {client token wire : ℕ} → Admits y z token client wire → Releases z w token
     → IsPlaced (record { yard = y; names = names })
     → (placed w.lists names ≡ placed y.lists names) × IsPlaced (record { yard = w; names = names })
-undo y z w names client token wire a r is = (
+undo {y} {z} {w} {names} {client} {token} {wire} a r is = (
   placed-same y.lists w.lists names all,
   record {
     stand = λ k d h. (all k d h).1;
@@ -226,9 +226,9 @@ absent-found y names client none = by (standing_of_client names client) refl (sy
     by None e h = e
     by (Some s) e h = absurd (cc)
 
-pub live-found : (y : Yard) (names : List (ℕ × Standing)) (client token : ℕ) → IsPlaced (record { yard = y; names = names })
+pub live-found : {y : Yard} {names : List (ℕ × Standing)} (client : ℕ) {token : ℕ} → IsPlaced (record { yard = y; names = names })
     → standing_of_client names client ≡ Some (Walking token) → IsSome (standing y.lists token)
-live-found y names client token is found = let (wire, stands) = stands-for y.lists names client token is.stand found in rw stands refl
+live-found {y} {names} client {token} is found = let (wire, stands) = stands-for y.lists names client token is.stand found in rw stands refl
 
 pub nobody : (y : Yard) → tokens_in y.lists ≡ 0 → IsPlaced (record { yard = y; names = [] })
 nobody y none = record { stand = λ k d h. absurd (omega arith); once = λ q. omega arith; walking = none }

@@ -116,8 +116,8 @@ free-read y order line k some at =
 
 -- a free record that was moved to a wire, and then got a client, is a token that came in
 pub admits-renamed : {old : Yard} {y m z : Inside} {order : ℕ → List ℕ} {t to client : ℕ} → Keeps y order
-    → lists_of y ≡ old.lists → count_of y.lines.items y.wires ≡ max 1 old.spare → Relinked y m t to → Renamed m z t client
-    → wire_of y.records.items t ≡ y.wires → to < y.wires → Admits old (yard_of z) t client to
+    → lists_of y ≡ old.lists → count_of y.lines.items y.wires ≡ max 1 old.spare → Relinked y m t to
+    → Renamed m z t client → wire_of y.records.items t ≡ y.wires → to < y.wires → Admits old (yard_of z) t client to
 admits-renamed {old} {y} {m} {z} {order} {t} {to} {client} k same spare re na free h =
     let who = na.new.client t in
     let this : client_of z.records.items t ≡ client = grind (arith, nat_tests) in
@@ -170,7 +170,8 @@ after-fill y records lines marks = record {
   marks = with_items y.marks marks;
 }
 
-pub filled-by : (y : Inside) {lines lines' : List Line} {marks : List ℕ} {records' : Vec Record Global} (marks' : List ℕ)
+pub filled-by : (y : Inside) {lines lines' : List Line} {marks : List ℕ} {records' : Vec Record Global}
+    (marks' : List ℕ)
     → lines ≡ y.lines.items → marks ≡ y.marks.items → length lines ≡ vec_len y.lines → length marks ≡ vec_len y.marks
     → IsMore y.records.items lines records'.items lines' y.wires
     → Fills y.records.items lines marks records'.items lines' marks' y.wires → length marks' ≡ length marks
