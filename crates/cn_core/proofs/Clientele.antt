@@ -193,8 +193,8 @@ leave {y} {z} {names} client name {token} r is found =
     )
 
 -- a client that came in and went at once has left no trace
-pub undo : {y z w : Yard} {names : List (ℕ × Standing)} {client token wire : ℕ} → Admits y z token client wire → Releases z w token
-    → IsPlaced (record { yard = y; names = names })
+pub undo : {y z w : Yard} {names : List (ℕ × Standing)} {client token wire : ℕ} → Admits y z token client wire
+    → Releases z w token → IsPlaced (record { yard = y; names = names })
     → (placed w.lists names ≡ placed y.lists names) × IsPlaced (record { yard = w; names = names })
 undo {y} {z} {w} {names} {client} {token} {wire} a r is = (
   placed-same y.lists w.lists names all,
@@ -226,9 +226,11 @@ absent-found y names client none = by (standing_of_client names client) refl (sy
     by None e h = e
     by (Some s) e h = absurd (cc)
 
-pub live-found : {y : Yard} {names : List (ℕ × Standing)} (client : ℕ) {token : ℕ} → IsPlaced (record { yard = y; names = names })
-    → standing_of_client names client ≡ Some (Walking token) → IsSome (standing y.lists token)
-live-found {y} {names} client {token} is found = let (wire, stands) = stands-for y.lists names client token is.stand found in rw stands refl
+pub live-found : {y : Yard} {names : List (ℕ × Standing)} (client : ℕ) {token : ℕ}
+    → IsPlaced (record { yard = y; names = names }) → standing_of_client names client ≡ Some (Walking token)
+    → IsSome (standing y.lists token)
+live-found {y} {names} client {token} is found =
+    let (wire, stands) = stands-for y.lists names client token is.stand found in rw stands refl
 
 pub nobody : (y : Yard) → tokens_in y.lists ≡ 0 → IsPlaced (record { yard = y; names = [] })
 nobody y none = record { stand = λ k d h. absurd (omega arith); once = λ q. omega arith; walking = none }

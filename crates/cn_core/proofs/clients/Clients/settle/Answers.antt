@@ -15,4 +15,5 @@ invariant_of-self c =
 pub returns-clause-settled : goal.returns-clause-settled
 returns-clause-settled c =
     let walking = rw (← c.self.view_is) at c.requires.walking in
-    rw (← c.self.view_is, c.settle.ensures) (leave c.args.client c.args.name c.release.ensures.released c.self.invariant walking).0
+    rw (← c.self.view_is, c.settle.ensures)
+    (leave c.args.client c.args.name c.release.ensures.released c.self.invariant walking).0

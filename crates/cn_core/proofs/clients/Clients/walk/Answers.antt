@@ -7,7 +7,8 @@ move_to-requires-clause-live c =
 
 pub invariant_of-self : goal.invariant_of-self
 invariant_of-self c =
-    let (client, found) = rw (← c.self.view_is) at c.requires.walking in (go client c.move_to.ensures c.self.invariant found).1
+    let (client, found) = rw (← c.self.view_is) at c.requires.walking in
+    (go client c.move_to.ensures c.self.invariant found).1
 
 pub returns-clause-walked : goal.returns-clause-walked
 returns-clause-walked c client found =

@@ -72,9 +72,11 @@ returns-in-Exit-clause-history c = rw (← c.self.view_is)
     (history-step _ c.args.client _ _ c.self.invariant.core.state (rw (← c.self.view_is) at (returns-in-Exit-clause-event c)))
 
 pub returns-in-Balancer-clause-ledger : goal.returns-in-Balancer-clause-ledger
-returns-in-Balancer-clause-ledger c = rw (← c.self.view_is)
-    (ledger-step _ c.args.client _ _ c.self.invariant.core.state (rw (← c.self.view_is) at (returns-in-Balancer-clause-event c)))
+returns-in-Balancer-clause-ledger c =
+    let event = rw (← c.self.view_is) at (returns-in-Balancer-clause-event c) in
+    rw (← c.self.view_is) (ledger-step _ c.args.client _ _ c.self.invariant.core.state event)
 
 pub returns-in-Exit-clause-ledger : goal.returns-in-Exit-clause-ledger
-returns-in-Exit-clause-ledger c = rw (← c.self.view_is)
-    (ledger-step _ c.args.client _ _ c.self.invariant.core.state (rw (← c.self.view_is) at (returns-in-Exit-clause-event c)))
+returns-in-Exit-clause-ledger c =
+    let event = rw (← c.self.view_is) at (returns-in-Exit-clause-event c) in
+    rw (← c.self.view_is) (ledger-step _ c.args.client _ _ c.self.invariant.core.state event)
