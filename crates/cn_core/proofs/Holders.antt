@@ -14,13 +14,13 @@ use Rattle.cn_core.proofs.StateLemmas.{count-cons}
 -- ---- a rising order of consecutive numbers
 
 -- a rising list in which each number stands as often as among the numbers from a on is those numbers
-rising-is : (a : ℕ) (xs : List ℕ) → ((n : ℕ) → times n xs ≡ times n (range_with_len a (length xs))) → AllPairs (λ x y. x ≤ y) xs
-    → xs ≡ range_with_len a (length xs)
+rising-is : (a : ℕ) (xs : List ℕ) → ((n : ℕ) → times n xs ≡ times n (range_with_len a (length xs)))
+    → AllPairs (λ x y. x ≤ y) xs → xs ≡ range_with_len a (length xs)
 rising-is a [] same rising = refl
 rising-is a (x ∷ xs) same rising =
     let head : x ≡ a = grind (arith, below, above) in
     let rest = rising-is (a + 1) xs (λ n.
-    let first : ◌≡◌ {A = ℕ} (cond (nat_eq x n) 1 0) (cond (nat_eq a n) 1 0) = ap {B = ℕ} (λ m. cond (nat_eq m n) 1 0) head in
+    let first = ap {B = ℕ} (λ m. cond (nat_eq m n) 1 0) head in
     omega (arith, same n, times-cons n x xs, times-cons n a (range_with_len (a + 1) (length xs))))
     (λ i j d before within. rising (suc i) (suc j) d (omega arith) (omega arith)) in
     ap₂ (λ y ys. y ∷ ys) head rest

@@ -1,23 +1,20 @@
 -- Merger: of two rows with the step property it makes the tree's row of their sum. So Bitonic counts.
-use Rattle.cn_spec.proofs.Common.{◌≡◌, ℕ, zero, suc, ◌+◌, ◌<◌, ◌≤◌, ◌^◌, List, [], ◌∷◌, refl, sym, ap, ap₂, ◌∙◌, inl, inr, subst, arith, sum, cases_lt, half, shares, IsStep, IsRow, evens, odds, interleave, layer, merge, tree, length, take, drop, bitonic}
-use Rattle.cn_spec.proofs.Rows.{firsts, seconds, evens-firsts, odds-seconds, firsts-interleave, seconds-interleave, sum-layer, evens-row, odds-row, layer_row, sum-evens-odds, front-row, back-row, sum-take-drop}
+use Rattle.cn_spec.proofs.Common.{◌≡◌, ℕ, zero, suc, ◌+◌, ◌<◌, ◌≤◌, ◌^◌, List, [], ◌∷◌, refl, sym, ap, ap₂, ◌∙◌, inl, inr, subst, arith, sum, cases_lt, half, shares, IsStep, IsRow, evens, odds, interleave, layer, merge, tree, length, take, drop, bitonic, false, true, Bool, cond}
+use Rattle.cn_spec.proofs.Rows.{part, evens-firsts, odds-seconds, firsts-interleave, seconds-interleave, sum-layer, evens-row, odds-row, layer_row, sum-evens-odds, front-row, back-row, sum-take-drop}
 use Rattle.cn_spec.proofs.Shares.{tree-shares, tree-lengths, tree_is-step, step-tree, row_is-shares}
 
 -- ---- the parts of the tree's rows
 
-pub firsts-tree : (level m : ℕ) → firsts (tree (suc level) m) ≡ tree level (half m 0)
+pub part-tree : (p : Bool) (level m : ℕ) → part p (tree (suc level) m) ≡ tree level (half m (cond p 1 0))
 unfolding tree
-firsts-tree level m = firsts-interleave _ _ (tree-lengths level (half m 0) (half m 1))
-
-pub seconds-tree : (level m : ℕ) → seconds (tree (suc level) m) ≡ tree level (half m 1)
-unfolding tree
-seconds-tree level m = seconds-interleave _ _ (tree-lengths level (half m 0) (half m 1))
+part-tree false level m = firsts-interleave _ _ (tree-lengths level (half m 0) (half m 1))
+part-tree true level m = seconds-interleave _ _ (tree-lengths level (half m 0) (half m 1))
 
 evens-tree : (level m : ℕ) → evens (tree (suc level) m) ≡ tree level (half m 0)
-evens-tree level m = evens-firsts (tree (suc level) m) ∙ firsts-tree level m
+evens-tree level m = evens-firsts (tree (suc level) m) ∙ part-tree false level m
 
 odds-tree : (level m : ℕ) → odds (tree (suc level) m) ≡ tree level (half m 1)
-odds-tree level m = odds-seconds (tree (suc level) m) ∙ seconds-tree level m
+odds-tree level m = odds-seconds (tree (suc level) m) ∙ part-tree true level m
 
 -- ---- a layer over two of the tree's rows whose sums differ by at most one
 

@@ -1,71 +1,60 @@
 -- Rows and their parts, by pairs of neighbours: even and odd entries, cochains; layers, and rows put together.
-use Rattle.cn_spec.proofs.Common.{◌≡◌, ℕ, zero, suc, ◌+◌, ◌*◌, ◌/◌, ◌<◌, List, [], ◌∷◌, length, get_or, refl, sym, ap, ◌∙◌, arith, fill_by_all, sum_by-cons, sum, IsStep, evens, odds, interleave, ◌++◌, half, layer, ◌-◌, ◌^◌, take, drop, length-drop, length-take-le, pow-suc, pow-succ', pow_below, pow_pos, sum_by-take-drop, IsRow, ◌%◌, Bool, true, false, a_cochain, b_cochain, ◌≤◌}
+use Rattle.cn_spec.proofs.Common.{not, ◌≡◌, ℕ, zero, suc, ◌+◌, ◌*◌, ◌/◌, ◌<◌, List, [], ◌∷◌, length, get_or, refl, sym, ap, ◌∙◌, arith, fill_by_all, sum_by-cons, sum, IsStep, evens, odds, interleave, ◌++◌, half, layer, ◌-◌, ◌^◌, take, drop, length-drop, length-take-le, pow-suc, pow-succ', pow_below, pow_pos, sum_by-take-drop, IsRow, ◌%◌, Bool, true, false, a_cochain, b_cochain, ◌≤◌, cond, cases_Bool}
 
 -- The even and the odd subsequence by pairs of neighbours.
 
-abbrev pub firsts : List ℕ → List ℕ
-firsts (a ∷ b ∷ x) = a ∷ firsts x
-firsts _ = []
-
-abbrev pub seconds : List ℕ → List ℕ
-seconds (a ∷ b ∷ x) = b ∷ seconds x
-seconds _ = []
+-- of each pair of neighbours the first, or the second
+abbrev pub part : Bool → List ℕ → List ℕ
+part second (a ∷ b ∷ x) = cond second b a ∷ part second x
+part p _ = []
 
 -- ---- places
 
-pub length-firsts : (x : List ℕ) → length (firsts x) ≡ length x / 2
-length-firsts (a ∷ b ∷ x) = omega (arith, length-firsts x)
-length-firsts _ = refl
+pub length-part : (p : Bool) (x : List ℕ) → length (part p x) ≡ length x / 2
+length-part p (a ∷ b ∷ x) = omega (arith, length-part p x)
+length-part p _ = refl
 
-pub length-seconds : (x : List ℕ) → length (seconds x) ≡ length x / 2
-length-seconds (a ∷ b ∷ x) = omega (arith, length-seconds x)
-length-seconds _ = refl
+pub get-or-part : (p : Bool) (x : List ℕ) (i : ℕ) → i < length x / 2
+    → get_or (part p x) i 0 ≡ get_or x (2 * i + cond p 1 0) 0
+get-or-part false (a ∷ b ∷ x) zero h = refl
+get-or-part true (a ∷ b ∷ x) zero h = refl
+get-or-part p (a ∷ b ∷ x) (suc i) h = let k : 2 * suc i + cond p 1 0 ≡ suc (suc (2 * i + cond p 1 0)) = omega arith in
+    rw k (get-or-part p x i (omega arith))
+get-or-part _ _ i h = absurd (omega arith)
 
-pub get-or-firsts : (x : List ℕ) (i : ℕ) → i < length x / 2 → get_or (firsts x) i 0 ≡ get_or x (2 * i) 0
-get-or-firsts (a ∷ b ∷ x) zero h = refl
-get-or-firsts (a ∷ b ∷ x) (suc i) h = let k : 2 * suc i ≡ suc (suc (2 * i)) = omega arith in rw k (get-or-firsts x i (omega arith))
-get-or-firsts _ i h = absurd (omega arith)
+pub evens-firsts : (x : List ℕ) → evens x ≡ part false x
+evens-firsts x = sym (fill_by_all (λ j. get_or x (2 * j) 0) (part false x) (length x / 2) 0 (length-part false x)
+    (λ i h. get-or-part false x i h ∙ ap (λ n. get_or x n 0) (omega arith)))
 
-pub get-or-seconds : (x : List ℕ) (i : ℕ) → i < length x / 2 → get_or (seconds x) i 0 ≡ get_or x (2 * i + 1) 0
-get-or-seconds (a ∷ b ∷ x) zero h = refl
-get-or-seconds (a ∷ b ∷ x) (suc i) h = let k : 2 * suc i + 1 ≡ suc (suc (2 * i + 1)) = omega arith in
-    rw k (get-or-seconds x i (omega arith))
-get-or-seconds _ i h = absurd (omega arith)
+pub odds-seconds : (x : List ℕ) → odds x ≡ part true x
+odds-seconds x = sym (fill_by_all (λ j. get_or x (2 * j + 1) 0) (part true x) (length x / 2) 0 (length-part true x)
+    (get-or-part true x))
 
-pub evens-firsts : (x : List ℕ) → evens x ≡ firsts x
-evens-firsts x = sym (fill_by_all (λ j. get_or x (2 * j) 0) (firsts x) (length x / 2) 0 (length-firsts x) (get-or-firsts x))
-
-pub odds-seconds : (x : List ℕ) → odds x ≡ seconds x
-odds-seconds x = sym (fill_by_all (λ j. get_or x (2 * j + 1) 0) (seconds x) (length x / 2) 0 (length-seconds x) (get-or-seconds x))
-
-pub same-firsts : (x y : List ℕ) → length x ≡ length y → length (firsts x) ≡ length (firsts y)
-same-firsts x y e = length-firsts x ∙ ap (λ n. n / 2) e ∙ sym (length-firsts y)
-
-pub same-seconds : (x y : List ℕ) → length x ≡ length y → length (seconds x) ≡ length (seconds y)
-same-seconds x y e = length-seconds x ∙ ap (λ n. n / 2) e ∙ sym (length-seconds y)
+pub same-part : (p : Bool) (x y : List ℕ) → length x ≡ length y → length (part p x) ≡ length (part p y)
+same-part p x y e = length-part p x ∙ ap (λ n. n / 2) e ∙ sym (length-part p y)
 
 -- ---- of rows put together
 
-pub firsts-interleave : (x y : List ℕ) → length x ≡ length y → firsts (interleave x y) ≡ x
+pub firsts-interleave : (x y : List ℕ) → length x ≡ length y → part false (interleave x y) ≡ x
 firsts-interleave [] y e = refl
 firsts-interleave (a ∷ x) [] e = absurd (omega arith)
 firsts-interleave (a ∷ x) (b ∷ y) e = ap (λ r. a ∷ r) (firsts-interleave x y (omega arith))
 
-pub seconds-interleave : (x y : List ℕ) → length x ≡ length y → seconds (interleave x y) ≡ y
+pub seconds-interleave : (x y : List ℕ) → length x ≡ length y → part true (interleave x y) ≡ y
 seconds-interleave [] [] e = refl
 seconds-interleave (a ∷ x) (b ∷ y) e = ap (λ r. b ∷ r) (seconds-interleave x y (omega arith))
 seconds-interleave _ _ e = absurd (omega arith)
 
 -- ---- sums
 
-pub sum-firsts-seconds : (n : ℕ) (x : List ℕ) → length x ≡ n * 2 → sum (firsts x) + sum (seconds x) ≡ sum x
+pub sum-firsts-seconds : (n : ℕ) (x : List ℕ) → length x ≡ n * 2 → sum (part false x) + sum (part true x) ≡ sum x
 sum-firsts-seconds n [] e = refl
 sum-firsts-seconds (suc n) (a ∷ b ∷ x) e =
     omega (
       arith,
       sum-firsts-seconds n x (omega arith),
-      sum_by-cons (λ (y : ℕ). y) a (firsts x),
-      sum_by-cons (λ (y : ℕ). y) b (seconds x),
+      sum_by-cons (λ (y : ℕ). y) a (part false x),
+      sum_by-cons (λ (y : ℕ). y) b (part true x),
       sum_by-cons (λ (y : ℕ). y) a (b ∷ x),
       sum_by-cons (λ (y : ℕ). y) b x,
     )
@@ -73,21 +62,17 @@ sum-firsts-seconds _ _ e = absurd (omega arith)
 
 -- ---- they keep the step property
 
-pub firsts-is_step : (x : List ℕ) → IsStep x → IsStep (firsts x)
-firsts-is_step x s = record {
-  no_less = λ i j l h. let k : j < length x / 2 = omega (arith, length-firsts x) in
-      rw (get-or-firsts x i (omega arith), get-or-firsts x j k) (s.no_less (2 * i) (2 * j) (omega arith) (omega arith));
-  at_most_one_more = λ i j l h. let k : j < length x / 2 = omega (arith, length-firsts x) in
-      rw (get-or-firsts x i (omega arith), get-or-firsts x j k) (s.at_most_one_more (2 * i) (2 * j) (omega arith) (omega arith));
-}
-
-pub seconds-is_step : (x : List ℕ) → IsStep x → IsStep (seconds x)
-seconds-is_step x s = record {
-  no_less = λ i j l h. let k : j < length x / 2 = omega (arith, length-seconds x) in
-      rw (get-or-seconds x i (omega arith), get-or-seconds x j k) (s.no_less (2 * i + 1) (2 * j + 1) (omega arith) (omega arith));
-  at_most_one_more = λ i j l h. let k : j < length x / 2 = omega (arith, length-seconds x) in
-      rw (get-or-seconds x i (omega arith), get-or-seconds x j k) (s.at_most_one_more (2 * i + 1) (2 * j + 1) (omega arith) (omega arith));
-}
+pub part-is_step : (p : Bool) (x : List ℕ) → IsStep x → IsStep (part p x)
+part-is_step p x s =
+    let q : ℕ = cond p 1 0 in
+    let low : q < 2 = grind (arith, cases_Bool p) in record {
+      no_less = λ i j m h. let k : j < length x / 2 = omega (arith, length-part p x) in
+          rw (get-or-part p x i (omega arith), get-or-part p x j k)
+          (s.no_less (2 * i + q) (2 * j + q) (omega arith) (omega arith));
+      at_most_one_more = λ i j m h. let k : j < length x / 2 = omega (arith, length-part p x) in
+          rw (get-or-part p x i (omega arith), get-or-part p x j k)
+          (s.at_most_one_more (2 * i + q) (2 * j + q) (omega arith) (omega arith));
+    }
 
 -- A layer of balancers.
 
@@ -119,17 +104,14 @@ layer-push _ _ a b e = absurd (omega arith)
 pub half-row : (level : ℕ) (x : List ℕ) → IsRow (suc level) x → length x / 2 ≡ 2 ^ level
 half-row level x e = omega (arith, pow-suc 2 level)
 
-pub firsts-row : (level : ℕ) (x : List ℕ) → IsRow (suc level) x → IsRow level (firsts x)
-firsts-row level x e = length-firsts x ∙ half-row level x e
-
-pub seconds-row : (level : ℕ) (x : List ℕ) → IsRow (suc level) x → IsRow level (seconds x)
-seconds-row level x e = length-seconds x ∙ half-row level x e
+pub part-row : (p : Bool) (level : ℕ) (x : List ℕ) → IsRow (suc level) x → IsRow level (part p x)
+part-row p level x e = length-part p x ∙ half-row level x e
 
 pub evens-row : (level : ℕ) (x : List ℕ) → IsRow (suc level) x → IsRow level (evens x)
-evens-row level x e = ap length (evens-firsts x) ∙ firsts-row level x e
+evens-row level x e = ap length (evens-firsts x) ∙ part-row false level x e
 
 pub odds-row : (level : ℕ) (x : List ℕ) → IsRow (suc level) x → IsRow level (odds x)
-odds-row level x e = ap length (odds-seconds x) ∙ seconds-row level x e
+odds-row level x e = ap length (odds-seconds x) ∙ part-row true level x e
 
 pub front-row : (level : ℕ) (x : List ℕ) → IsRow (suc level) x → IsRow level (take (2 ^ level) x)
 front-row level x e = length-take-le (2 ^ level) x (omega (arith, pow-suc 2 level))
@@ -158,7 +140,7 @@ same-level n m level p q = grind (arith, pow_below level m, pow_below m level)
 
 -- ---- sums
 
-pub sum_pairs : (level : ℕ) (x : List ℕ) → IsRow (suc level) x → sum (firsts x) + sum (seconds x) ≡ sum x
+pub sum_pairs : (level : ℕ) (x : List ℕ) → IsRow (suc level) x → sum (part false x) + sum (part true x) ≡ sum x
 sum_pairs level x e = sum-firsts-seconds (2 ^ level) x (e ∙ pow-suc 2 level)
 
 pub sum-evens-odds : (level : ℕ) (x : List ℕ) → IsRow (suc level) x → sum (evens x) + sum (odds x) ≡ sum x
@@ -223,23 +205,17 @@ sum-cochains level x e = rw (a-in-turn x, b-in-turn x) (sum-in-turn (2 ^ level) 
 
 -- ---- their even and odd entries
 
-parts-in-turn : (x : List ℕ) → (firsts (in_turn x true) ≡ firsts (firsts x)) × (seconds (in_turn x true) ≡ seconds (seconds x))
-    × (firsts (in_turn x false) ≡ firsts (seconds x)) × (seconds (in_turn x false) ≡ seconds (firsts x))
-parts-in-turn (a ∷ b ∷ c ∷ d ∷ x) =
-    let (f, s, g, t) = parts-in-turn x in (ap (λ r. a ∷ r) f, ap (λ r. d ∷ r) s, ap (λ r. b ∷ r) g, ap (λ r. c ∷ r) t)
-parts-in-turn _ = (refl, refl, refl, refl)
+parts-in-turn : (p : Bool) (x : List ℕ) → (part p (in_turn x true) ≡ part p (part p x))
+    × (part p (in_turn x false) ≡ part p (part (not p) x))
+parts-in-turn false (a ∷ b ∷ c ∷ d ∷ x) = let (e, f) = parts-in-turn false x in (ap (λ r. a ∷ r) e, ap (λ r. b ∷ r) f)
+parts-in-turn true (a ∷ b ∷ c ∷ d ∷ x) = let (e, f) = parts-in-turn true x in (ap (λ r. d ∷ r) e, ap (λ r. c ∷ r) f)
+parts-in-turn p _ = (refl, refl)
 
-pub firsts-a : (x : List ℕ) → firsts (a_cochain x) ≡ firsts (firsts x)
-firsts-a x = ap firsts (a-in-turn x) ∙ (parts-in-turn x).0
+pub part-a : (p : Bool) (x : List ℕ) → part p (a_cochain x) ≡ part p (part p x)
+part-a p x = ap (part p) (a-in-turn x) ∙ (parts-in-turn p x).0
 
-pub seconds-a : (x : List ℕ) → seconds (a_cochain x) ≡ seconds (seconds x)
-seconds-a x = ap seconds (a-in-turn x) ∙ (parts-in-turn x).1
-
-pub firsts-b : (x : List ℕ) → firsts (b_cochain x) ≡ firsts (seconds x)
-firsts-b x = ap firsts (b-in-turn x) ∙ (parts-in-turn x).2
-
-pub seconds-b : (x : List ℕ) → seconds (b_cochain x) ≡ seconds (firsts x)
-seconds-b x = ap seconds (b-in-turn x) ∙ (parts-in-turn x).3
+pub part-b : (p : Bool) (x : List ℕ) → part p (b_cochain x) ≡ part p (part (not p) x)
+part-b p x = ap (part p) (b-in-turn x) ∙ (parts-in-turn p x).1
 
 -- Rows of which every second entry is known.
 
