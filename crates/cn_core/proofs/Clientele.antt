@@ -1,6 +1,8 @@
 -- Clients whose tokens stand in a yard: who comes, who moves, who leaves.
-use Rattle.cn_core.proofs.Common.{◌≡◌, ◌≢◌, ℕ, zero, suc, ◌+◌, ◌≤◌, Bool, true, false, cond, nat_eq, eqb, List, [], ◌∷◌, ◌++◌, get_or, map, refl, sym, ap, ◌∙◌, arith, Option, Some, None, On, Position, Walking, count_by, nat_tests, position_in, values_of, with_position, All, IsSome, option_map, eqb-true, map-append, sum_by-cons, Admits, Lists, Moves, Releases, Yard, standing, tokens_in, Standing, is_walking, standing_of_client, with_standing, Holds, is_inside, count-push, count-set, times-absent, times-push, times-set, IsPlaced, StandsFor, position_by}
+use Rattle.cn_core.proofs.Common.{◌≡◌, ◌≢◌, ℕ, suc, ◌≤◌, cond, nat_eq, List, [], ◌∷◌, ◌++◌, get_or, map, refl, sym, ap, ◌∙◌, arith, Option, Some, None, On, Position, Walking, count_by, nat_tests, position_in, values_of, with_position, All, IsSome, eq-eqb, ne_eqb, cases_eq, inl, inr, option_map, map-append, sum_by-cons, Admits, Lists, Moves, Releases, Yard, standing, tokens_in, Standing, is_walking, standing_of_client, with_standing, Holds, is_inside, count-push, count-set, times-absent, times-push, times-set, IsPlaced, StandsFor, position_by}
 use Rattle.cn_names.specs.declared.standing.Standing.TheVariants.{Holds as Named}
+use Rattle.std.proofs.lemmas.List.Elements.{All-cons, All-push, All-tail}
+use Rattle.std.proofs.lemmas.List.Sums.{get_or-le-sum_by}
 use Rattle.cn_core.proofs.StateLemmas.{count-cons}
 
 -- the table's entries with their positions in the yard
@@ -56,51 +58,23 @@ AllStand y names = All (λ e. StandsFor y e.0 e.1) names
 tail : (y : Lists) (e : ℕ × Standing) (names : List (ℕ × Standing)) → AllStand y (e ∷ names) → AllStand y names
 tail y e names all k d h = all (suc k) d (omega arith)
 
-push-front : (y : Lists) (e : ℕ × Standing) (names : List (ℕ × Standing)) → StandsFor y e.0 e.1 → AllStand y names → AllStand y (e ∷ names)
-push-front y e names here rest zero d h = here
-push-front y e names here rest (suc k) d h = rest k d (omega arith)
-
-placed-same : (y z : Lists) (names : List (ℕ × Standing)) → ((e : ℕ × Standing) → StandsFor y e.0 e.1 → StaysFor y z e) → AllStand y names
-    → placed z names ≡ placed y names
-placed-same y z [] each all = refl
-placed-same y z (e ∷ names) each all =
-    let here = (each e (all 0 e (omega arith))).0 in
-    let rest = placed-same y z names each (tail y e names all) in
-    rw (here, rest) refl
-
-stand-same : (y z : Lists) (names : List (ℕ × Standing)) → ((e : ℕ × Standing) → StandsFor y e.0 e.1 → StaysFor y z e) → AllStand y names
-    → AllStand z names
-stand-same y z names each all k d h = (each (get_or names k d) (all k d h)).1
-
--- where a client is nowhere in the table, no entry is its
-not-its : (client : ℕ) (e : ℕ × Standing) (names : List (ℕ × Standing)) → count_by (λ x. nat_eq client x.0) (e ∷ names) ≡ 0
-    → (client ≢ e.0) × (count_by (λ x. nat_eq client x.0) names ≡ 0)
-not-its client e names none =
-    let sum = sum_by-cons (λ (x : ℕ × Standing). cond (nat_eq client x.0) 1 0) e names in (
-      λ same. let here : nat_eq client e.0 ≡ true = grind (arith, nat_tests) in
-          let one : ◌≡◌ {A = ℕ} (cond (nat_eq client e.0) 1 0) 1 = rw here refl in omega arith,
-      omega arith,
-    )
+-- where nobody is moved, all are where they were
+placed-same : (y z : Lists) (names : List (ℕ × Standing)) → All (StaysFor y z) names → placed z names ≡ placed y names
+placed-same y z [] each = refl
+placed-same y z (e ∷ names) each =
+    rw ((each 0 e (omega arith)).0, placed-same y z names (All-tail (StaysFor y z) e names each)) refl
 
 -- a change that leaves as they were all who are not the client
 abbrev Spares : Lists → Lists → ℕ → Type 0
 Spares y z client = (e : ℕ × Standing) → StandsFor y e.0 e.1 → client ≢ e.0 → StaysFor y z e
 
-placed-others : (y z : Lists) (client : ℕ) (names : List (ℕ × Standing)) → Spares y z client → AllStand y names
-    → count_by (λ e. nat_eq client e.0) names ≡ 0 → placed z names ≡ placed y names
-placed-others y z client [] spares all none = refl
-placed-others y z client (e ∷ names) spares all none =
-    let (differ, left) = not-its client e names none in
-    let here = (spares e (all 0 e (omega arith)) differ).0 in
-    let rest = placed-others y z client names spares (tail y e names all) left in
-    rw (here, rest) refl
-
-stand-others : (y z : Lists) (client : ℕ) (names : List (ℕ × Standing)) → Spares y z client → AllStand y names
-    → count_by (λ e. nat_eq client e.0) names ≡ 0 → AllStand z names
-stand-others y z client [] spares all none = λ k d h. absurd (omega arith)
-stand-others y z client (e ∷ names) spares all none =
-    let (differ, left) = not-its client e names none in
-    push-front z e names (spares e (all 0 e (omega arith)) differ).1 (stand-others y z client names spares (tail y e names all) left)
+-- where the client is nowhere in the table, no entry is its
+others : (y z : Lists) (client : ℕ) (names : List (ℕ × Standing)) → Spares y z client → AllStand y names
+    → count_by (λ e. nat_eq client e.0) names ≡ 0 → All (StaysFor y z) names
+others y z client names spares all none k d h =
+    let e : ℕ × Standing = get_or names k d in
+    let most = get_or-le-sum_by (λ (x : ℕ × Standing). cond (nat_eq client x.0) 1 0) names k d h in
+    spares e (all k d h) (λ same. absurd (let one = rw (eq-eqb client e.0 same) at most in omega arith))
 
 -- one client has another standing, or its token another wire: so its position changes, and no other
 placed-one : (y z : Lists) (client token : ℕ) (s : Standing) (p : Position) (names : List (ℕ × Standing)) → Spares y z client
@@ -111,7 +85,8 @@ placed-one y z client token s p [] spares is all once = refl
 placed-one y z client token s p (e ∷ names) spares is all once =
     let spare : client ≢ e.0 → position_by z e.1 ≡ position_by y e.1 = λ d. (spares e (all 0 e (omega arith)) d).0 in
     let rest = placed-one y z client token s p names spares is (tail y e names all) in
-    let others = placed-others y z client names spares (tail y e names all) in
+    let rest-same = λ (none : count_by (λ x. nat_eq client x.0) names ≡ 0).
+    placed-same y z names (others y z client names spares (tail y e names all) none) in
     grind (arith, nat_tests, sum_by-cons (λ (x : ℕ × Standing). cond (nat_eq client x.0) 1 0) e names)
 
 stand-one : (y z : Lists) (client : ℕ) (s : Standing) (names : List (ℕ × Standing)) → Spares y z client → StandsFor z client s
@@ -119,23 +94,18 @@ stand-one : (y z : Lists) (client : ℕ) (s : Standing) (names : List (ℕ × St
     → AllStand z (with_standing names client s)
 stand-one y z client s [] spares is all once = λ k d h. absurd (omega arith)
 stand-one y z client s (e ∷ names) spares is all once =
-    by (nat_eq client e.0) refl (stand-one y z client s names spares is (tail y e names all))
-    (stand-others y z client names spares (tail y e names all))
-    (sum_by-cons (λ (x : ℕ × Standing). cond (nat_eq client x.0) 1 0) e names)
-  where
-    by : (b : Bool) → nat_eq client e.0 ≡ b
-        → (count_by (λ x. nat_eq client x.0) names ≤ 1 → AllStand z (with_standing names client s))
-        → (count_by (λ x. nat_eq client x.0) names ≡ 0 → AllStand z names)
-        → count_by (λ x. nat_eq client x.0) (e ∷ names) ≡ cond (nat_eq client e.0) 1 0 + count_by (λ x. nat_eq client x.0) names
-        → AllStand z (cond b ((e.0, s) ∷ names) (e ∷ with_standing names client s))
-    by true here rest others sum =
-        let one : ◌≡◌ {A = ℕ} (cond (nat_eq client e.0) 1 0) 1 = rw here refl in
-        let its : client ≡ e.0 = eqb-true client e.0 here in
-        push-front z (e.0, s) names (rw its at is) (others (omega arith))
-    by false here rest others sum =
-        let none : ◌≡◌ {A = ℕ} (cond (nat_eq client e.0) 1 0) 0 = rw here refl in
-        let differ : client ≢ e.0 = λ q. let yes : nat_eq client e.0 ≡ true = grind (arith, nat_tests) in cc in
-        push-front z e (with_standing names client s) (spares e (all 0 e (omega arith)) differ).1 (rest (omega arith))
+    let sum = sum_by-cons (λ (x : ℕ × Standing). cond (nat_eq client x.0) 1 0) e names in
+    elim (cases_eq client e.0) [
+      | inl its ↦
+          let one : ◌≡◌ {A = ℕ} (cond (nat_eq client e.0) 1 0) 1 = rw (eq-eqb client e.0 its) refl in
+          let none : count_by (λ x. nat_eq client x.0) names ≡ 0 = omega (arith, sum) in
+          rw (eq-eqb client e.0 its) (All-cons (λ x. StandsFor z x.0 x.1) (e.0, s) names (rw its at is)
+          (λ k d h. (others y z client names spares (tail y e names all) none k d h).1))
+      | inr differ ↦
+          let rest = stand-one y z client s names spares is (tail y e names all) (omega (arith, sum)) in
+          rw (ne_eqb client e.0 differ) (All-cons (λ x. StandsFor z x.0 x.1) e (with_standing names client s)
+          (spares e (all 0 e (omega arith)) differ).1 rest)
+    ]
 
 -- a standing that a client has already
 with-same : (client : ℕ) (s : Standing) (names : List (ℕ × Standing)) → standing_of_client names client ≡ Some s
@@ -156,30 +126,26 @@ pub stands-for : (y : Lists) (names : List (ℕ × Standing)) (client token : �
     → standing_of_client names client ≡ Some (Walking token)
     → (wire : ℕ) × (standing y token ≡ Some (wire, client))
 stands-for y [] client token all found = absurd (cc)
-stands-for y (e ∷ names) client token all found = by (nat_eq client e.0) refl found (stands-for y names client token (tail y e names all))
-  where
-    by : (b : Bool) → nat_eq client e.0 ≡ b → cond b (Some e.1) (standing_of_client names client) ≡ Some (Walking token)
-        → (standing_of_client names client ≡ Some (Walking token) → (wire : ℕ) × (standing y token ≡ Some (wire, client)))
-        → (wire : ℕ) × (standing y token ≡ Some (wire, client))
-    by true here found rest =
-        let its : e.1 ≡ Walking token = cc in
-        let who : client ≡ e.0 = eqb-true client e.0 here in
-        rw who (rw its at (all 0 e (omega arith)))
-    by false here found rest = rest found
+stands-for y (e ∷ names) client token all found = elim (cases_eq client e.0) [
+  | inl who ↦
+      let its : e.1 ≡ Walking token = let here = rw (eq-eqb client e.0 who) at found in cc in
+      rw who (rw its at (all 0 e (omega arith)))
+  | inr differ ↦ stands-for y names client token (tail y e names all) (rw (ne_eqb client e.0 differ) at found)
+]
 
 -- a client comes in with a token
-pub come : (y z : Yard) (names : List (ℕ × Standing)) (client token wire : ℕ) → Admits y z token client wire
+pub come : {y z : Yard} {names : List (ℕ × Standing)} {client token wire : ℕ} → Admits y z token client wire
     → IsPlaced (record { yard = y; names = names }) → standing_of_client names client ≡ None
     → (placed z.lists (names ++ (client, Walking token) ∷ []) ≡ placed y.lists names ++ (client, On wire) ∷ [])
     × IsPlaced (record { yard = z; names = names ++ (client, Walking token) ∷ [] })
-come y z names client token wire a is absent =
-    let self : standing z.lists token ≡ Some (wire, client) =
-    a.standing_now token ∙ (let yes : eqb token token ≡ true = grind (arith, nat_tests) in rw yes refl) in
-    let all = stand-same y.lists z.lists names each is.stand in (
+come {y} {z} {names} {client} {token} {wire} a is absent =
+    let now : standing z.lists token ≡ Some (wire, client) = a.standing_now token ∙ rw (eq-eqb token token refl) refl in
+    let all : All (StaysFor y.lists z.lists) names = λ k d h. each (get_or names k d) (is.stand k d h) in (
       map-append (λ (e : ℕ × Standing). (e.0, position_by z.lists e.1)) names ((client, Walking token) ∷ [])
-          ∙ rw (placed-same y.lists z.lists names each is.stand, self) refl,
+          ∙ rw (placed-same y.lists z.lists names all, now) refl,
       record {
-        stand = push-back names all (wire, self);
+        stand = All-push (λ e. StandsFor z.lists e.0 e.1) names (client, Walking token)
+            (λ k d h. (all k d h).1) (wire, now);
         once = λ q. grind (arith, nat_tests, is.once q, times-push names client (Walking token) q, times-absent names client absent);
         walking = a.tokens ∙ omega (arith, is.walking, count-push is_walking names client (Walking token));
       },
@@ -187,44 +153,37 @@ come y z names client token wire a is absent =
   where
     each : (e : ℕ × Standing) → StandsFor y.lists e.0 e.1 → StaysFor y.lists z.lists e
     each e its = stays y.lists z.lists e.0 token e.1
-        (λ other n. a.standing_now other ∙ (let no : eqb other token ≡ false = grind (arith, nat_tests) in rw no refl)) (fresh e.1 its) its
+        (λ other n. a.standing_now other ∙ rw (ne_eqb other token n) refl) (fresh e.1 its) its
       where
         fresh : (s : Standing) → StandsFor y.lists e.0 s → s ≡ Walking token → ⊥
         fresh (Walking t) (w, h) q = let same : t ≡ token = cc in let found = rw same at h in let none = a.fresh in absurd (cc)
         fresh (Named name) h q = cc
 
-    push-back : (names : List (ℕ × Standing)) → AllStand z.lists names → StandsFor z.lists client (Walking token)
-        → AllStand z.lists (names ++ (client, Walking token) ∷ [])
-    push-back [] all here = push-front z.lists (client, Walking token) [] here all
-    push-back (e ∷ names) all here = push-front z.lists e (names ++ (client, Walking token) ∷ []) (all 0 e (omega arith))
-        (push-back names (tail z.lists e names all) here)
-
 -- a client's token goes to another wire
-pub go : (y z : Yard) (names : List (ℕ × Standing)) (client token wire : ℕ)
+pub go : {y z : Yard} {names : List (ℕ × Standing)} (client : ℕ) {token wire : ℕ}
     → ((from who : ℕ) → standing y.lists token ≡ Some (from, who) → Moves y z token who wire)
     → IsPlaced (record { yard = y; names = names }) → standing_of_client names client ≡ Some (Walking token)
     → (placed z.lists names ≡ with_position (placed y.lists names) client (On wire)) × IsPlaced (record { yard = z; names = names })
-go y z names client token wire moves is found =
+go {y} {z} {names} client {token} {wire} moves is found =
     let (from, stands) = stands-for y.lists names client token is.stand found in
     let m = moves from client stands in
     let spares = spared y.lists z.lists client token from stands
-    (λ other n. m.standing_now other ∙ (let no : eqb other token ≡ false = grind (arith, nat_tests) in rw no refl)) in
-    let self : standing z.lists token ≡ Some (wire, client) =
-    m.standing_now token ∙ (let yes : eqb token token ≡ true = grind (arith, nat_tests) in rw yes refl) in
+    (λ other n. m.standing_now other ∙ rw (ne_eqb other token n) refl) in
+    let now : standing z.lists token ≡ Some (wire, client) = m.standing_now token ∙ rw (eq-eqb token token refl) refl in
     let same = with-same client (Walking token) names found in
-    let one = placed-one y.lists z.lists client token (Walking token) (On wire) names spares (rw self refl) is.stand (is.once client) in
-    let all = stand-one y.lists z.lists client (Walking token) names spares (wire, self) is.stand (is.once client) in
+    let one = placed-one y.lists z.lists client token (Walking token) (On wire) names spares (rw now refl) is.stand (is.once client) in
+    let all = stand-one y.lists z.lists client (Walking token) names spares (wire, now) is.stand (is.once client) in
     (rw same at one, record { stand = rw same at all; once = is.once; walking = m.tokens ∙ is.walking })
 
 -- a client leaves with a name
-pub leave : (y z : Yard) (names : List (ℕ × Standing)) (client token name : ℕ) → Releases y z token
+pub leave : {y z : Yard} {names : List (ℕ × Standing)} (client name : ℕ) {token : ℕ} → Releases y z token
     → IsPlaced (record { yard = y; names = names }) → standing_of_client names client ≡ Some (Walking token)
     → (placed z.lists (with_standing names client (Named name)) ≡ with_position (placed y.lists names) client (Holds name))
     × IsPlaced (record { yard = z; names = with_standing names client (Named name) })
-leave y z names client token name r is found =
+leave {y} {z} {names} client name {token} r is found =
     let (from, stands) = stands-for y.lists names client token is.stand found in
     let spares = spared y.lists z.lists client token from stands
-    (λ other n. r.standing_now other ∙ (let no : eqb other token ≡ false = grind (arith, nat_tests) in rw no refl)) in (
+    (λ other n. r.standing_now other ∙ rw (ne_eqb other token n) refl) in (
       placed-one y.lists z.lists client token (Named name) (Holds name) names spares refl is.stand (is.once client),
       record {
         stand = stand-one y.lists z.lists client (Named name) names spares tt is.stand (is.once client);
@@ -234,13 +193,13 @@ leave y z names client token name r is found =
     )
 
 -- a client that came in and went at once has left no trace
-pub undo : (y z w : Yard) (names : List (ℕ × Standing)) (client token wire : ℕ) → Admits y z token client wire → Releases z w token
-    → IsPlaced (record { yard = y; names = names })
+pub undo : {y z w : Yard} {names : List (ℕ × Standing)} {client token wire : ℕ} → Admits y z token client wire
+    → Releases z w token → IsPlaced (record { yard = y; names = names })
     → (placed w.lists names ≡ placed y.lists names) × IsPlaced (record { yard = w; names = names })
-undo y z w names client token wire a r is = (
-  placed-same y.lists w.lists names each is.stand,
+undo {y} {z} {w} {names} {client} {token} {wire} a r is = (
+  placed-same y.lists w.lists names all,
   record {
-    stand = stand-same y.lists w.lists names each is.stand;
+    stand = λ k d h. (all k d h).1;
     once = is.once;
     walking = omega (arith, a.tokens, r.tokens, is.walking);
   },
@@ -250,11 +209,11 @@ undo y z w names client token wire a r is = (
     same other = grind (arith, nat_tests, r.standing_now other, a.standing_now other, a.fresh)
 
     each : (e : ℕ × Standing) → StandsFor y.lists e.0 e.1 → StaysFor y.lists w.lists e
-    each e its = by e.1 its
-      where
-        by : (s : Standing) → StandsFor y.lists e.0 s → (position_by w.lists s ≡ position_by y.lists s) × StandsFor w.lists e.0 s
-        by (Walking t) (u, h) = (rw (same t) refl, (u, same t ∙ h))
-        by (Named name) h = (refl, tt)
+    each (client, Walking t) (u, h) = (rw (same t) refl, (u, same t ∙ h))
+    each (client, Named name) h = (refl, tt)
+
+    all : All (StaysFor y.lists w.lists) names
+    all k d h = each (get_or names k d) (is.stand k d h)
 
 -- ---- who is in the table
 
@@ -267,9 +226,11 @@ absent-found y names client none = by (standing_of_client names client) refl (sy
     by None e h = e
     by (Some s) e h = absurd (cc)
 
-pub live-found : (y : Yard) (names : List (ℕ × Standing)) (client token : ℕ) → IsPlaced (record { yard = y; names = names })
-    → standing_of_client names client ≡ Some (Walking token) → IsSome (standing y.lists token)
-live-found y names client token is found = let (wire, stands) = stands-for y.lists names client token is.stand found in rw stands refl
+pub live-found : {y : Yard} {names : List (ℕ × Standing)} (client : ℕ) {token : ℕ}
+    → IsPlaced (record { yard = y; names = names }) → standing_of_client names client ≡ Some (Walking token)
+    → IsSome (standing y.lists token)
+live-found {y} {names} client {token} is found =
+    let (wire, stands) = stands-for y.lists names client token is.stand found in rw stands refl
 
 pub nobody : (y : Yard) → tokens_in y.lists ≡ 0 → IsPlaced (record { yard = y; names = [] })
 nobody y none = record { stand = λ k d h. absurd (omega arith); once = λ q. omega arith; walking = none }

@@ -1,5 +1,5 @@
--- A state that agrees with a history answers by it.
-use Rattle.cn_core.proofs.Common.{◌≡◌, ℕ, ◌+◌, ◌<◌, ◌≤◌, cond, nat_eq, List, [], ◌∷◌, length, get_or, refl, ap, arith, Some, None, sym, ◌∙◌, length-append, inl, inr, subst, drop, drop-cons, add-one, AgreesAfter, Balancer, Carried, End, Enter, Event, Exit, IsState, Network, On, Position, State, Step, after_carry, carried_by, count_by, end_of, inside_in, nat_tests, past, position_after, position_in, position_past, start, state_after_enter, state_after_step, values_of, with_position, length-set_value, MOST_CLIENTS, one_more-at, zero_at, Table, is_end, Holds, NoSuchEntry, AlreadyIn, EpochFull, Memory, Reply, Entered, EnterRefused, Stepped, StepRefused, is_named, is_inside, leaves_of, inside_of, end_at, is_leave, IsHistory, Agrees, MayAnswerAll, history_after, steps_before, EntersTo, StepsTo, TakesTo, IsLedgerEvent, AnswersByHistory, RunsByHistory, RunsTo, lookup-push, lookup-set, count-push, count-set}
+-- A state that agrees with a history answers by it, and the passages of each history have sound numbers.
+use Rattle.cn_core.proofs.Common.{◌≡◌, ℕ, ◌+◌, ◌<◌, ◌≤◌, cond, nat_eq, List, [], ◌∷◌, length, get_or, refl, ap, arith, Some, None, sym, ◌∙◌, length-append, inl, inr, subst, drop, drop-cons, add-one, AgreesAfter, Balancer, Carried, End, Enter, Event, Exit, IsState, Network, On, Position, State, Step, after_carry, carried_by, count_by, end_of, inside_in, nat_tests, past, position_after, position_in, position_past, start, state_after_enter, state_after_step, values_of, with_position, length-set_value, MOST_CLIENTS, one_more-at, zero_at, Table, is_end, Holds, NoSuchEntry, AlreadyIn, EpochFull, Memory, Reply, Entered, EnterRefused, Stepped, StepRefused, is_named, is_inside, leaves_of, inside_of, end_at, is_leave, IsHistory, Agrees, MayAnswerAll, history_after, steps_before, EntersTo, StepsTo, TakesTo, IsLedgerEvent, AnswersByHistory, RunsByHistory, RunsTo, lookup-push, lookup-set, count-push, count-set, ◌&&◌, Bool, true, false, eqb, nat_lt, once_below, is_same_end, times_passed}
 use Rattle.cn_ledger.specs.declared.reply.StepFault.TheVariants.{Stranger, HasName}
 use Rattle.cn_core.proofs.StateLemmas.{count-cons, stands-at}
 
@@ -46,65 +46,51 @@ past-state_after_step s client wire (Exit i) (Exit j) is within ends =
     grind (arith, nat_tests, one_more-at s.visits i j, is.exits)
 past-state_after_step s client wire _ _ is within ends = omega arith
 
-pub network-state_after_step : (s : State) (client : ℕ) (end : End) → (state_after_step s client end).network ≡ s.network
-network-state_after_step s client (Balancer b) = refl
-network-state_after_step s client (Exit i) = refl
-
-pub base-state_after_step : (s : State) (client : ℕ) (end : End) → (state_after_step s client end).base ≡ s.base
-base-state_after_step s client (Balancer b) = refl
-base-state_after_step s client (Exit i) = refl
-
-pub entered-state_after_step : (s : State) (client : ℕ) (end : End) → (state_after_step s client end).entered ≡ s.entered
-entered-state_after_step s client (Balancer b) = refl
-entered-state_after_step s client (Exit i) = refl
-
-pub clients-state_after_step : (s : State) (client : ℕ) (end : End)
-    → (state_after_step s client end).clients ≡ with_position s.clients client (position_past s.network.table s.base end (past s end))
-clients-state_after_step s client (Balancer b) = refl
-clients-state_after_step s client (Exit i) = refl
+-- what a step leaves, and where its client is
+pub after-step : (s : State) (client : ℕ) (end : End) → let z : State = state_after_step s client end in
+    (z.network ≡ s.network) × (z.base ≡ s.base) × (z.entered ≡ s.entered)
+    × (z.clients ≡ with_position s.clients client (position_past s.network.table s.base end (past s end)))
+after-step s client (Balancer b) = (refl, refl, refl, refl)
+after-step s client (Exit i) = (refl, refl, refl, refl)
 
 -- a token that goes past an exit has a name, and past a balancer it has none
 named-past : (table : Table) (base : ℕ) (end : End) (n : ℕ) → is_named (position_past table base end n) ≡ is_leave (Some end)
 named-past table base (Balancer b) n = refl
 named-past table base (Exit i) n = refl
 
+-- a client that stands on a wire stands there by the history
+pub end-after : (s : State) (h : List Event) (k : Carried) (client wire : ℕ) (end : End) → AgreesAfter s h k
+    → position_in s.clients client ≡ Some (On wire) → end_of s.network.table wire ≡ end
+    → end_at s.network.table (position_after s.network.table h k client) ≡ Some end
+end-after s h k client wire end a on ends = rw (← a.positions client, on) (ap Some ends)
+
 pub AgreesAfter-state_after_step : (s : State) (h : List Event) (k : Carried) (client wire : ℕ) (end : End) → IsState s
     → position_in s.clients client ≡ Some (On wire) → end_of s.network.table wire ≡ end
     → AgreesAfter s h k → AgreesAfter (state_after_step s client end) (Step client ∷ h) k
-AgreesAfter-state_after_step s h k client wire end is on ends a = record {
-  base = rw (base-state_after_step s client end) a.base;
-  accepted = subst (λ (n : Network). IsHistory n.table (Step client ∷ h) k) (sym (network-state_after_step s client end))
-      (rw (← a.positions client, on) refl, a.accepted);
-  positions = λ q. rw (
-    clients-state_after_step s client end,
-    network-state_after_step s client end,
-    lookup-set s.clients client (position_past s.network.table s.base end (past s end)) (On wire) q on,
-    a.positions q,
-    here,
-    a.counts end,
-    a.base,
-  ) refl;
-  entered = λ e. rw (entered-state_after_step s client end) (a.entered e);
-  total = rw (
-    clients-state_after_step s client end,
-    length-set_value (nat_eq client) s.clients (position_past s.network.table s.base end (past s end)),
-  ) a.total;
-  left = rw (clients-state_after_step s client end, network-state_after_step s client end, here)
-      (let more = count-set is_named s.clients client (position_past s.network.table s.base end (past s end)) (On wire) on in
-      let same = ap {B = ℕ} (λ b. cond b 1 0) (named-past s.network.table s.base end (past s end)) in
-      let kept : leaves_of (state_after_step s client end).network.table h k ≡ leaves_of s.network.table h k =
-      ap (λ (n : Network). leaves_of n.table h k) (network-state_after_step s client end) in
-      omega (arith, a.left));
-  counts = λ other. rw (
-    network-state_after_step s client end,
-    past-state_after_step s client wire end other is (is.on_wires client wire on) ends,
-    a.counts other,
-    here,
-  ) refl;
-}
-  where
-    here : end_at s.network.table (position_after s.network.table h k client) ≡ Some end
-    here = rw (← a.positions client, on) (ap Some ends)
+AgreesAfter-state_after_step s h k client wire end is on ends a =
+    let to : Position = position_past s.network.table s.base end (past s end) in
+    let (network, base, entered, clients) = after-step s client end in
+    let here = end-after s h k client wire end a on ends in record {
+      base = rw base a.base;
+      accepted = subst (λ (n : Network). IsHistory n.table (Step client ∷ h) k) (sym network)
+          (rw (← a.positions client, on) refl, a.accepted);
+      positions = λ q.
+          rw (clients, network, lookup-set s.clients client to (On wire) q on)
+          (rw (a.positions q, here, a.counts end, a.base) refl);
+      entered = λ e. rw entered (a.entered e);
+      total = rw (clients, length-set_value (nat_eq client) s.clients to) a.total;
+      left = rw (clients, network, here)
+          (let more = count-set is_named s.clients client to (On wire) on in
+          let same = ap {B = ℕ} (λ b. cond b 1 0) (named-past s.network.table s.base end (past s end)) in
+          let kept = ap (λ (n : Network). leaves_of n.table h k) network in
+          omega (arith, a.left));
+      counts = λ other. rw (
+        network,
+        past-state_after_step s client wire end other is (is.on_wires client wire on) ends,
+        a.counts other,
+        here,
+      ) refl;
+    }
 
 pub history-enter : (old : State) (client entry : ℕ) (reply : Reply) (new : State) → IsState old → EntersTo old client entry reply new
     → AnswersByHistory old (Enter client entry) reply new
@@ -139,26 +125,20 @@ history-step old client (StepRefused Stranger) new is (none, e) h earlier a = (i
 history-step old client (StepRefused (HasName name)) new is (named, e) h earlier a = (inl (rw (← a.1.positions client, named) refl), rw e a)
 history-step old client _ new is none h earlier a = absurd none
 
--- a run is an answer and the run of the rest
-pub runs-cons : (old mid new : State) (c : Event) (cs : List Event) (r : Reply) (rs : List Reply)
-    → AnswersByHistory old c r mid → mid.network ≡ old.network → RunsByHistory mid cs rs new → RunsByHistory old (c ∷ cs) (r ∷ rs) new
-runs-cons old mid new c cs r rs answered same runs h earlier a =
-    let rest = runs (history_after h c r) earlier (answered h earlier a).1 in (
-      (
-        (answered h earlier a).0,
-        subst (λ (n : Network). MayAnswerAll n.table (history_after h c r) (carried_by n.table earlier) cs rs) same
-            rest.0,
-      ),
-      rest.1,
-    )
-
--- the same, from the i-th event on
+-- a run from the i-th event on is an answer and the run of the rest
 pub runs-at : (old mid new : State) (cs : List Event) (i : ℕ) (d : Event) (r : Reply) (rs : List Reply) → i < length cs
     → AnswersByHistory old (get_or cs i d) r mid → mid.network ≡ old.network → RunsByHistory mid (drop (i + 1) cs) rs new
     → RunsByHistory old (drop i cs) (r ∷ rs) new
 runs-at old mid new cs i d r rs within answered same runs =
     let shown : drop i cs ≡ get_or cs i d ∷ drop (i + 1) cs = rw (add-one, drop-cons cs i d) refl in
-    rw shown (runs-cons old mid new (get_or cs i d) (drop (i + 1) cs) r rs answered same runs)
+    rw shown (λ h earlier a.
+    let after : List Event = history_after h (get_or cs i d) r in
+    let left : List Event = drop (i + 1) cs in
+    let (answer, agrees) = answered h earlier a in
+    let (rest, end) = runs after earlier agrees in (
+      (answer, subst (λ (n : Network). MayAnswerAll n.table after (carried_by n.table earlier) left rs) same rest),
+      end,
+    ))
 
 -- the same of the states that a run goes through
 pub runs_to-at : (old mid new : State) (cs : List Event) (i : ℕ) (d : Event) (r : Reply) (rs : List Reply) → i < length cs
@@ -209,10 +189,35 @@ came-after old new (Enter client entry) Entered (within, absent, room, e) =
     rw e (omega (arith, length-append old.clients ((client, On entry) ∷ [])))
 came-after old new (Step client) (Stepped moved) (wire, on, m, e) =
     let end : End = end_of old.network.table wire in
-    let same = ap length (clients-state_after_step old client end)
+    let (network, base, entered, clients) = after-step old client end in
+    let same = ap length clients
     ∙ length-set_value (nat_eq client) old.clients (position_past old.network.table old.base end (past old end)) in
-    rw e (omega (arith, base-state_after_step old client end))
+    rw e (omega arith)
 came-after old new (Enter client entry) (EnterRefused NoSuchEntry) (beyond, e) = rw e (omega arith)
 came-after old new (Step client) (StepRefused Stranger) (none, e) = rw e (omega arith)
 came-after old new (Step client) (StepRefused (HasName name)) (named, e) = rw e (omega arith)
 came-after old new _ _ takes = grind arith
+
+-- ---- passages
+
+-- numbers that are those below m, each once, and m if the step is a passage
+one-more : (before times m n : ℕ) (here : Bool) → before + times ≡ cond (nat_lt n m) 1 0
+    → before + (times + cond (here && eqb m n) 1 0) ≡ cond (nat_lt n (m + cond here 1 0)) 1 0
+one-more before times m n true sound = grind (arith, nat_tests)
+one-more before times m n false sound = grind (arith, nat_tests)
+
+-- the passage numbers of each balancer, with those that are carried, are those below its count, each once
+abbrev pub HasSoundPassages : Table → List Event → Carried → Type 0
+HasSoundPassages table history carried =
+    (b n : ℕ) → once_below (carried.steps (Balancer b)) n + times_passed table history carried b n
+    ≡ once_below (steps_before table history carried (Balancer b)) n
+
+pub sound-passages : (table : Table) (history : List Event) (carried : Carried) → HasSoundPassages table history carried
+sound-passages table [] carried b n = omega arith
+sound-passages table (Enter c entry ∷ history) carried b n = sound-passages table history carried b n
+sound-passages table (Step c ∷ history) carried b n =
+    one-more (once_below (carried.steps (Balancer b)) n) (times_passed table history carried b n)
+    (steps_before table history carried (Balancer b)) n
+    (is_same_end (Balancer b) (end_at table (position_after table history carried c))) (sound-passages table history carried b n)
+
+pub ruleset inside_laws = (inside-by_history)

@@ -1,6 +1,7 @@
 -- The clients of a quiet state, listed by the names that they hold.
-use Rattle.cn_core.proofs.Common.{◌≡◌, ℕ, zero, suc, ◌+◌, ◌-◌, ◌<◌, ◌≤◌, cond, nat_eq, List, [], ◌∷◌, length, get_or, map, refl, sym, ap, ap₂, subst, ◌∙◌, arith, zero-add, Some, inl, inr, nat_tests, IsCore, On, Position, State, Walking, count_by, eq-eqb, inside_in, position_in, positions, values_of, AllPairs, Contains, keys_of, get_or-map, length-map, sum_by-cons, Lists, Standing, IsRising, ListsByName, grants_in, Holds, Clients, position_by, is_inside, name_at, times_entered, ListsStateHolders, grants_of_clients}
-use Rattle.std.specs.List.{range_with_len, sum_by}
+use Rattle.cn_core.proofs.Common.{times-cons, ◌≡◌, ℕ, zero, suc, ◌+◌, ◌<◌, ◌≤◌, cond, nat_eq, List, [], ◌∷◌, length, get_or, map, refl, sym, ap, ap₂, subst, ◌∙◌, arith, zero-add, Some, inl, inr, nat_tests, IsCore, On, Position, State, Walking, count_by, eq-eqb, inside_in, position_in, positions, values_of, AllPairs, Contains, keys_of, get_or-map, length-map, sum_by-cons, Lists, Standing, IsRising, ListsByName, grants_in, Holds, Clients, position_by, is_inside, name_at, times_entered, ListsStateHolders, grants_of_clients, times}
+use Rattle.cn_spec.proofs.CallerLemmas.{times-inside, times-member, times-order, times-outside, times-place}
+use Rattle.std.specs.List.{range_with_len}
 use Rattle.std.specs.List.Sorted.{IsPermutation}
 use Rattle.std.proofs.lemmas.List.Elements.{Contains-get_or}
 use Rattle.std.proofs.lemmas.List.FromFn.{get_or-range_with_len, length-range_with_len}
@@ -12,22 +13,15 @@ use Rattle.cn_core.proofs.StateLemmas.{count-cons}
 
 -- ---- a rising order of consecutive numbers
 
-sum-none : (f : ℕ → ℕ) (xs : List ℕ) → ((i : ℕ) → i < length xs → f (get_or xs i 0) ≡ 0) → sum_by f xs ≡ 0
-sum-none f [] each = refl
-sum-none f (x ∷ xs) each = omega (arith, sum_by-cons f x xs, each 0 (omega arith), sum-none f xs (λ i within. each (suc i) (omega arith)))
-
-same-by : (a b : ℕ) → (a < b → ⊥) → (b < a → ⊥) → a ≡ b
-same-by a b less greater = grind (arith, less, greater)
-
--- a rising list with the sums of the numbers from a on is those numbers
-rising-is : (a : ℕ) (xs : List ℕ) → ((f : ℕ → ℕ) → sum_by f xs ≡ sum_by f (range_with_len a (length xs))) → AllPairs (λ x y. x ≤ y) xs
-    → xs ≡ range_with_len a (length xs)
+-- a rising list in which each number stands as often as among the numbers from a on is those numbers
+rising-is : (a : ℕ) (xs : List ℕ) → ((n : ℕ) → times n xs ≡ times n (range_with_len a (length xs)))
+    → AllPairs (λ x y. x ≤ y) xs → xs ≡ range_with_len a (length xs)
 rising-is a [] same rising = refl
 rising-is a (x ∷ xs) same rising =
-    let head : x ≡ a = same-by x a below above in
-    let rest = rising-is (a + 1) xs (λ f.
-    let first : f x ≡ f a = ap f head in
-    omega (arith, same f, sum_by-cons f x xs, sum_by-cons f a (range_with_len (a + 1) (length xs))))
+    let head : x ≡ a = grind (arith, below, above) in
+    let rest = rising-is (a + 1) xs (λ n.
+    let first = ap {B = ℕ} (λ m. cond (nat_eq m n) 1 0) head in
+    omega (arith, same n, times-cons n x xs, times-cons n a (range_with_len (a + 1) (length xs))))
     (λ i j d before within. rising (suc i) (suc j) d (omega arith) (omega arith)) in
     ap₂ (λ y ys. y ∷ ys) head rest
   where
@@ -37,34 +31,20 @@ rising-is a (x ∷ xs) same rising =
 
     above : a < x → ⊥
     above more =
-        let f = λ (y : ℕ). a + 1 - y in
-        omega (
-          arith,
-          same f,
-          sum-none f (x ∷ xs) (λ i within. omega (arith, least i within)),
-          sum_by-cons f a (range_with_len (a + 1) (length xs)),
-        )
+        let one = times-inside a a (suc (length xs)) (omega arith) (omega arith) in
+        let (i, within, is) = times-place (x ∷ xs) a (omega (arith, same a)) in
+        omega (arith, least i within)
 
     below : x < a → ⊥
     below less =
-        let f = λ (y : ℕ). a - y in
-        omega (
-          arith,
-          same f,
-          sum-none f (range_with_len a (suc (length xs)))
-              (λ i within. omega (
-                arith,
-                get_or-range_with_len a (suc (length xs)) i 0
-                    (omega (arith, length-range_with_len a (suc (length xs)))),
-              )),
-          sum_by-cons f x xs,
-        )
+        let some = times-member (x ∷ xs) 0 (omega arith) in
+        omega (arith, same x, times-outside x a (suc (length xs)) (inl less))
 
 -- an order of the numbers below k that rises is 0, 1, 2 and so on
 pub rising-each_below : (k : ℕ) (xs : List ℕ) → IsPermutation (range_with_len 0 k) xs → AllPairs (λ x y. x ≤ y) xs → xs ≡ range_with_len 0 k
 rising-each_below k xs order rising =
     let len : length xs ≡ k = length_permutation (range_with_len 0 k) xs order ∙ length-range_with_len 0 k in
-    rising-is 0 xs (λ f. rw len (sum_by-IsPermutation f (range_with_len 0 k) xs order)) rising ∙ ap (range_with_len 0) len
+    rising-is 0 xs (λ n. rw len (times-order (range_with_len 0 k) xs n order)) rising ∙ ap (range_with_len 0) len
 
 -- ---- the names that the table's clients hold
 

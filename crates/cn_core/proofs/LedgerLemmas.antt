@@ -3,10 +3,8 @@ use Rattle.cn_core.proofs.Common.{◌≡◌, ℕ, ◌+◌, ◌<◌, List, [], �
 use Rattle.cn_ledger.specs.declared.moved.Moved.{Moved}
 use Rattle.cn_ledger.specs.Moves.{IsMoveOf}
 use Rattle.cn_core.proofs.StateLemmas.{given_before, name-later, share-zero, stands-at, IsState-start, IsState-state_after_enter, IsState-state_after_step}
-use Rattle.cn_core.proofs.HistoryLemmas.{Agrees-start, AgreesAfter-state_after_enter, AgreesAfter-state_after_step}
-use Rattle.cn_core.proofs.PassageLemmas.{sound-passages}
-use Rattle.cn_core.proofs.LedgerMoves.{ledger-enters, ledger-passes}
-use Rattle.cn_core.proofs.LedgerLeaves.{ledger-leaves}
+use Rattle.cn_core.proofs.HistoryLemmas.{Agrees-start, Agrees-state_after_step, AgreesAfter-state_after_enter, sound-passages}
+use Rattle.cn_core.proofs.LedgerMoves.{ledger-enters, ledger-passes, ledger-leaves}
 
 -- ---- every state is a sound ledger
 
@@ -82,39 +80,34 @@ IsCore-state_after_enter s client entry is within absent room =
         Enter client entry ∷ h,
         earlier,
         (epochs, AgreesAfter-state_after_enter s h k client entry is.state within absent room a),
-        sound-enters s.network.table (state_ledger s h k) (state_ledger (state_after_enter s client entry) (Enter client entry ∷ h) k)
-            client entry (ledger-enters s h k client entry is.state within) sound,
+        sound-enters s.network.table _ _ client entry (ledger-enters s h k client entry is.state within) sound,
       );
     }
+
+sound-step : (s : State) (h : List Event) (earlier : List (List Event)) (client wire : ℕ) (end : End) → IsState s
+    → position_in s.clients client ≡ Some (On wire) → end_of s.network.table wire ≡ end
+    → AgreesAfter s h (carried_by s.network.table earlier) → HasSoundLedger s h (carried_by s.network.table earlier)
+    → let z : State = state_after_step s client end in
+    HasSoundLedger z (Step client ∷ h) (carried_by z.network.table earlier)
+sound-step s h earlier client wire (Balancer b) is on ends a =
+    sound-passes s.network.table _ _ client wire b
+    (ledger-passes s h (carried_by s.network.table earlier) client wire b is on ends a)
+sound-step s h earlier client wire (Exit i) is on ends a =
+    sound-leaves s.network.table is.network.formed _ _ client wire i
+    (ledger-leaves s h (carried_by s.network.table earlier) client wire i is on ends a)
 
 pub IsCore-state_after_step : (s : State) (client wire : ℕ) (end : End) → IsCore s → position_in s.clients client ≡ Some (On wire)
     → end_of s.network.table wire ≡ end
     → IsCore (state_after_step s client end)
-IsCore-state_after_step s client wire (Balancer b) is on ends =
-    let (h, earlier, (epochs, a), sound) = is.reached in
-    let k : Carried = carried_by s.network.table earlier in
+IsCore-state_after_step s client wire end is on ends =
+    let (h, earlier, a, sound) = is.reached in
     record {
-      state = IsState-state_after_step s client wire (Balancer b) is.state on ends;
+      state = IsState-state_after_step s client wire end is.state on ends;
       reached = (
         Step client ∷ h,
         earlier,
-        (epochs, AgreesAfter-state_after_step s h k client wire (Balancer b) is.state on ends a),
-        sound-passes s.network.table (state_ledger s h k) (state_ledger (state_after_step s client (Balancer b)) (Step client ∷ h) k) client
-            wire b (ledger-passes s h k client wire b is.state on ends a) sound,
-      );
-    }
-IsCore-state_after_step s client wire (Exit i) is on ends =
-    let (h, earlier, (epochs, a), sound) = is.reached in
-    let k : Carried = carried_by s.network.table earlier in
-    record {
-      state = IsState-state_after_step s client wire (Exit i) is.state on ends;
-      reached = (
-        Step client ∷ h,
-        earlier,
-        (epochs, AgreesAfter-state_after_step s h k client wire (Exit i) is.state on ends a),
-        sound-leaves s.network.table is.state.network.formed (state_ledger s h k)
-            (state_ledger (state_after_step s client (Exit i)) (Step client ∷ h) k) client wire i
-            (ledger-leaves s h k client wire i is.state on ends a) sound,
+        Agrees-state_after_step s h earlier client wire end is.state on ends a,
+        sound-step s h earlier client wire end is.state on ends a.1 sound,
       );
     }
 

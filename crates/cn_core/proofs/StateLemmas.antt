@@ -1,5 +1,5 @@
 -- Each event keeps what each state keeps.
-use Rattle.cn_core.proofs.Common.{Bool, cond, ◌≡◌, ℕ, ◌+◌, ◌*◌, ◌%◌, ◌<◌, ◌≤◌, nat_eq, List, [], ◌∷◌, ◌++◌, length, arith, Some, None, ◌∙◌, slice_index, length-set, length-append, subst, ap, replicate, Balancer, End, Exit, IsState, count_by, Network, On, Position, State, after_carry, end_of, name_of, nat_tests, once_below, position_in, position_past, share, start, state_after_enter, state_after_step, length-replicate, sum_by-cons, length-set_value, MOST_CARRIED, MOST_CLIENTS, name-below, one_more-at, sum-below-change, sum-below-zero, zero_at, one_more, Stands, LeadsOn, IsNetwork, came_in, times_entered, lookup-push, lookup-set, times-push, times-absent, times-set}
+use Rattle.cn_core.proofs.Common.{Bool, cond, ◌≡◌, ℕ, ◌+◌, ◌*◌, ◌%◌, ◌<◌, ◌≤◌, nat_eq, List, [], ◌∷◌, ◌++◌, length, arith, Some, None, ◌∙◌, slice_index, length-set, length-append, subst, ap, replicate, Balancer, End, Exit, IsState, count_by, Network, On, Position, State, after_carry, end_of, name_of, nat_tests, once_below, position_in, position_past, share, start, state_after_enter, state_after_step, length-replicate, sum_by-cons, length-set_value, MOST_CARRIED, MOST_CLIENTS, name-below, one_more-at, sum-below-change, sum-below-zero, zero_at, one_more, Stands, IsNetwork, with_position, refl, came_in, times_entered, lookup-push, lookup-set, times-push, times-absent, times-set}
 
 pub count-cons : {X : Type 0} (p : X → Bool) (x : X) (xs : List X) → count_by p (x ∷ xs) ≡ cond (p x) 1 0 + count_by p xs
 count-cons p x xs = sum_by-cons (λ y. cond (p y) 1 0) x xs
@@ -12,10 +12,6 @@ given_before s i v = once_below (share s.base s.network.table.width i) v
 pub stands-at : (network : Network) → IsNetwork network → (wire : ℕ) (end : End) → wire < length network.table.ends
     → end_of network.table wire ≡ end → Stands network.table end
 stands-at network is wire end within e = subst (Stands network.table) e (is.formed.stands wire within)
-
-pub leads-on : (network : Network) → IsNetwork network → (wire b : ℕ) → wire < length network.table.ends
-    → end_of network.table wire ≡ Balancer b → wire < network.table.entries + 2 * b
-leads-on network is wire b within e = subst (LeadsOn network.table wire) e (is.formed.forward wire within)
 
 once-push : (clients : List (ℕ × Position)) (client : ℕ) (position : Position) → position_in clients client ≡ None
     → ((q : ℕ) → times_entered q clients ≤ 1)
@@ -52,61 +48,42 @@ IsState-state_after_enter s client entry is within absent room = record {
     on-wire : (q wire : ℕ) → position_in (s.clients ++ (client, On entry) ∷ []) q ≡ Some (On wire) → wire < length s.network.table.ends
     on-wire q wire on = grind (arith, entry_below, lookup-push s.clients client (On entry) q absent, is.on_wires q wire)
 
-half : (n : ℕ) → n % 2 < 2
-half n = omega arith
+-- a client goes on to another position, and one count rises
+moved-on : (s : State) (passes visits : List ℕ) (client wire : ℕ) (to : Position) → IsState s
+    → position_in s.clients client ≡ Some (On wire) → length passes ≡ length s.passes → length visits ≡ length s.visits
+    → ((i : ℕ) → slice_index s.visits i ≤ slice_index visits i)
+    → ((w : ℕ) → to ≡ On w → w < length s.network.table.ends)
+    → IsState (record s { passes = passes; visits = visits; clients = with_position s.clients client to })
+moved-on s passes visits client wire to is on as_passes as_visits more lands = record {
+  network = is.network;
+  entries = is.entries;
+  balancers = as_passes ∙ is.balancers;
+  exits = as_visits ∙ is.exits;
+  few = rw (length-set_value (nat_eq client) s.clients to) is.few;
+  carried = is.carried;
+  shares = λ j within. omega (arith, is.shares j within, more j);
+  once = λ q. rw (times-set s.clients client to q) (is.once q);
+  all = rw (length-set_value (nat_eq client) s.clients to) is.all;
+  on_wires = λ q w h. grind (arith, lands w, lookup-set s.clients client to (On wire) q on, is.on_wires q w);
+}
 
--- a token that steps off a wire goes past the balancer there, which it had not passed
+-- a token that steps off a wire goes past the balancer there, or out by the exit
 pub IsState-state_after_step : (s : State) (client wire : ℕ) (end : End) → IsState s → position_in s.clients client ≡ Some (On wire)
     → end_of s.network.table wire ≡ end
     → IsState (state_after_step s client end)
-IsState-state_after_step s client wire (Balancer b) is on ends = record {
-  network = is.network;
-  entries = is.entries;
-  balancers = length-set s.passes b (slice_index s.passes b + 1) ∙ is.balancers;
-  exits = is.exits;
-  few = rw (length-set_value (nat_eq client) s.clients to) is.few;
-  carried = is.carried;
-  shares = is.shares;
-  once = λ q. rw (times-set s.clients client to q) (is.once q);
-  all = rw (length-set_value (nat_eq client) s.clients to) is.all;
-  on_wires = λ q w h. grind (arith, within, lookup-set s.clients client to (On wire) q on, is.on_wires q w);
-}
-  where
-    to : Position
-    to = position_past s.network.table s.base (Balancer b) (slice_index s.passes b)
-
-    below : b < s.network.table.balancers
-    below = stands-at s.network is.network wire (Balancer b) (is.on_wires client wire on) ends
-
-    older : wire < s.network.table.entries + 2 * b
-    older = leads-on s.network is.network wire b (is.on_wires client wire on) ends
-
-    in_range : b < length s.passes
-    in_range = omega (arith, is.balancers, below)
-
-    within : s.network.table.entries + 2 * b + slice_index s.passes b % 2 < length s.network.table.ends
-    within = omega (arith, half (slice_index s.passes b), is.network.formed.wires, below)
-IsState-state_after_step s client wire (Exit i) is on ends = record {
-  network = is.network;
-  entries = is.entries;
-  balancers = is.balancers;
-  exits = length-set s.visits i (slice_index s.visits i + 1) ∙ is.exits;
-  few = rw (length-set_value (nat_eq client) s.clients to) is.few;
-  carried = is.carried;
-  shares = λ j within. grind (arith, nat_tests, is.shares j within, one_more-at s.visits i j in_range);
-  once = λ q. rw (times-set s.clients client to q) (is.once q);
-  all = rw (length-set_value (nat_eq client) s.clients to) is.all;
-  on_wires = λ q w h. grind (arith, lookup-set s.clients client to (On wire) q on, is.on_wires q w);
-}
-  where
-    to : Position
-    to = position_past s.network.table s.base (Exit i) (slice_index s.visits i)
-
-    below : i < s.network.table.width
-    below = stands-at s.network is.network wire (Exit i) (is.on_wires client wire on) ends
-
-    in_range : i < length s.visits
-    in_range = omega (arith, is.exits, below)
+IsState-state_after_step s client wire (Balancer b) is on ends =
+    let n : ℕ = slice_index s.passes b in
+    let at : ℕ = s.network.table.entries + 2 * b + n % 2 in
+    let below = stands-at s.network is.network wire (Balancer b) (is.on_wires client wire on) ends in
+    let within : at < length s.network.table.ends = omega (arith, is.network.formed.wires) in
+    moved-on s (one_more s.passes b) s.visits client wire (position_past s.network.table s.base (Balancer b) n) is on
+    (length-set s.passes b (n + 1)) refl (λ i. omega arith) (λ w e. let same : at ≡ w = cc in omega arith)
+IsState-state_after_step s client wire (Exit i) is on ends =
+    let n : ℕ = slice_index s.visits i in
+    let below = stands-at s.network is.network wire (Exit i) (is.on_wires client wire on) ends in
+    moved-on s s.passes (one_more s.visits i) client wire (position_past s.network.table s.base (Exit i) n) is on refl
+    (length-set s.visits i (n + 1))
+    (λ j. grind (arith, nat_tests, one_more-at s.visits i j (omega (arith, is.exits)))) (λ w e. absurd (cc))
 
 -- of nobody each exit's share is nothing
 pub share-zero : (w i : ℕ) → i < w → share 0 w i ≡ 0

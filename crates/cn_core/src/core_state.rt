@@ -116,6 +116,7 @@ impl<'a> Core<'a> {
     /// a count; some history leads to it, and by each that does its ledger is sound, and what is carried by each exit
     /// is its share of the carried clients; no count is more than what came in, and no exit has let out more than its
     /// share of that, nor less than its share of the carried clients; names differ, and are below their number.
+    #[tactic(auto, using(crate::proofs::EarlierLemmas::state_laws))]
     pub fn state_laws(&self)
         ensures few { length self.now.clients ≤ MOST_CLIENTS }
         ensures carried { self.now.base ≤ MOST_CARRIED }
@@ -134,6 +135,7 @@ impl<'a> Core<'a> {
     }
 
     /// How many clients are inside: they entered and hold no name.
+    #[tactic(auto, using(crate::proofs::HistoryLemmas::inside_laws))]
     pub fn inside(&self) -> u64
         ensures value { result ≡ inside_in self.now }
         ensures by_history { ByHistories self.now (λ history carried.

@@ -14,6 +14,7 @@ ghost use Rattle.cn_ledger.specs.declared.reply.StepFault.TheVariants.{HasName, 
 
 /// After any history two clients that hold one name are one client. The earlier epochs, if there are any, were
 /// accepted, and have no more clients than may be carried.
+#[tactic(auto, using(crate::proofs::EarlierLemmas::holder_laws))]
 pub fn a_name_has_one_holder()
     ensures { (network : Network) (history : List Event) (earlier : List (List Event))
         → IsNetwork network → AreEpochs network.table earlier

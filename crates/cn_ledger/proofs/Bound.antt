@@ -1,5 +1,5 @@
--- A sound ledger against the full flow of what entered.
-use Rattle.cn_ledger.proofs.Common.{◌≡◌, ℕ, zero, suc, ◌+◌, ◌-◌, ◌*◌, ◌/◌, ◌%◌, ◌<◌, ◌≤◌, inl, inr, cond, List, length, get_or, map, refl, ap, sym, ◌∙◌, arith, eqb, subst, add-zero, cases_eq, lt-ltb, le-ltb, nat_tests, mod_below, half, share, shares, name_of, exit_of-name_of, get-or-shares, half-mono, name-below, name_of-exit_of, row_is-shares, sum-below-same, total-where-agree, total-where-mono, total-where-zero, End, Balancer, Exit, when, sum_below, Agree, once_below, Table, is_end, sum_at, Stands, IsWellFormed, IsFullFlow, Counts, full-flow-exists, full-flow-sum, full-flow-unique, older, Ledger, put, IsSound, all_entered, IsQuiescent, IsBounded, IsTight, times_given}
+-- A sound ledger against the full flow of what entered: its counts are few, and nobody is lost.
+use Rattle.cn_ledger.proofs.Common.{◌≡◌, ℕ, zero, suc, ◌+◌, ◌-◌, ◌*◌, ◌/◌, ◌%◌, ◌<◌, ◌≤◌, inl, inr, cond, List, length, get_or, map, refl, ap, sym, ◌∙◌, arith, eqb, subst, add-zero, cases_eq, lt-ltb, le-ltb, nat_tests, mod_below, half, share, shares, name_of, exit_of-name_of, get-or-shares, half-mono, name-below, name_of-exit_of, row_is-shares, sum-below-same, total-where-agree, total-where-mono, total-where-zero, End, Balancer, Exit, when, sum_below, Agree, once_below, Table, is_end, sum_at, Stands, IsWellFormed, IsFullFlow, Counts, full-flow-exists, full-flow-sum, full-flow-unique, older, Ledger, put, IsSound, all_entered, IsQuiescent, IsBounded, IsTight, times_given, half-sum, sum-below-plus, count-twice, full-flow-few}
 use Rattle.std.proofs.lemmas.List.FromFn.{sum_by-map-range_with_len_more, get_or-map-range_with_len, length-map-range_with_len}
 use Rattle.std.specs.List.{range_with_len, sum}
 
@@ -205,3 +205,52 @@ pub granted-once : (t : Table) (l : Ledger) → IsSound t l → (c i v name : �
 granted-once t l sound c i v name g =
     let (h, e) = sound.named c i v name g in
     omega (arith, sound.once c i v name, given-most t l sound i v h)
+
+-- Counts are few, and nobody is lost.
+
+pub counts-few : (t : Table) → IsWellFormed t → (l : Ledger) → IsSound t l → (end : End) → Stands t end → l.count end ≤ all_entered t l
+counts-few t w l sound end h =
+    let (f, flow, inputs) = full-flow-exists t w l.entered in
+    let same : sum_below t.entries f ≡ all_entered t l = sum-below-same t.entries f l.entered inputs in
+    omega (arith, count-at_most t w l sound f flow inputs end h, full-flow-few t w f flow end h)
+
+-- what has been put on the wires is what came in and what passed the balancers
+put-sum : (t : Table) (l : Ledger) (n : ℕ) → n ≤ t.balancers
+    → sum_below (t.entries + 2 * n) (put t l) ≡ all_entered t l + sum_below n (λ b. l.count (Balancer b))
+unfolding sum_below
+put-sum t l zero k =
+    let z : t.entries + 2 * 0 ≡ t.entries = omega arith in
+    rw z (omega (arith, sum-below-same t.entries (put t l) l.entered (put-entry t l)))
+put-sum t l (suc n) k =
+    let before = put-sum t l n (omega arith) in
+    let first : put t l (t.entries + 2 * n) ≡ half (l.count (Balancer n)) 0 = let e : t.entries + 2 * n + 0 ≡ t.entries + 2 * n =
+    omega arith in rw e at (put-output t l n 0 (omega arith)) in
+    let second : put t l (suc (t.entries + 2 * n)) ≡ half (l.count (Balancer n)) 1 =
+    let e : t.entries + 2 * n + 1 ≡ suc (t.entries + 2 * n) = omega arith in rw e at (put-output t l n 1 (omega arith)) in
+    let m : t.entries + 2 * suc n ≡ suc (suc (t.entries + 2 * n)) = omega arith in
+    let two : sum_below (suc (suc (t.entries + 2 * n))) (put t l)
+    ≡ sum_below (t.entries + 2 * n) (put t l) + put t l (t.entries + 2 * n) + put t l (suc (t.entries + 2 * n)) = refl in
+    rw m (omega (arith, half-sum (l.count (Balancer n))))
+
+-- who left and who stands on a wire are all that came in
+pub nobody-lost : (t : Table) → IsWellFormed t → (l : Ledger) → IsSound t l
+    → sum_below t.width (λ i. l.count (Exit i)) + sum_below (length t.ends) l.on ≡ all_entered t l
+nobody-lost t w l sound =
+    let there = count-twice t t.ends l.on w.stands in
+    let came = count-twice t t.ends (put t l) w.stands in
+    let balancers : sum_below t.balancers (λ b. l.count (Balancer b)) + sum_below t.balancers (λ b. sum_at t (Balancer b) l.on)
+    ≡ sum_below t.balancers (λ b. sum_at t (Balancer b) (put t l)) =
+    sym (sum-below-plus t.balancers (λ b. l.count (Balancer b)) (λ b. sum_at t (Balancer b) l.on))
+    ∙ sum-below-same t.balancers _ _ (λ b h. sound.balanced (Balancer b) h) in
+    let exits : sum_below t.width (λ i. l.count (Exit i)) + sum_below t.width (λ i. sum_at t (Exit i) l.on)
+    ≡ sum_below t.width (λ i. sum_at t (Exit i) (put t l)) =
+    sym (sum-below-plus t.width (λ i. l.count (Exit i)) (λ i. sum_at t (Exit i) l.on))
+    ∙ sum-below-same t.width _ _ (λ i h. sound.balanced (Exit i) h) in
+    let wires : sum_below (length t.ends) (put t l) ≡ sum_below (t.entries + 2 * t.balancers) (put t l) =
+    ap (λ n. sum_below n (put t l)) w.wires in
+    omega (arith, put-sum t l t.balancers (omega arith))
+
+-- what the laws say
+pub ruleset count_laws = (counts-few, nobody-lost)
+
+pub ruleset name_laws = (names-differ, granted-once)

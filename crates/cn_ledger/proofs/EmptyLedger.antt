@@ -30,8 +30,8 @@ sound-nothing t l none = record {
   owned = λ i v h g. absurd (omega (arith, none.given (Exit i) v));
 }
 
-pub sound-empty : (t : Table) → IsSound t empty_ledger
-sound-empty t = sound-nothing t empty_ledger
+pub sound_empty : (t : Table) → IsSound t empty_ledger
+sound_empty t = sound-nothing t empty_ledger
     (record {
       entered = λ e. refl;
       count = λ end. refl;

@@ -2,8 +2,7 @@
 use Rattle.cn_ledger.proofs.Common.{◌≡◌, ℕ, zero, suc, ◌+◌, ◌-◌, ◌*◌, ◌/◌, ◌%◌, ◌<◌, ◌≤◌, eqb, sym, refl, ap, ◌∙◌, arith, nat_tests, mod_below, name_of, share, once_below, sum_below, when, name-below, share-next, share-stays, sum-below-part, sum-below-pick, sum-below-plus, sum-below-same, sum-below-zero, Exit, Counts, IsWellFormed, Table, sum_at, full-flow-exists, full-flow-sum, IsSound, Ledger, all_entered, times_given}
 use Rattle.cn_ledger.specs.Gaps.{IsNearShares, IsSmooth, names_missing}
 use Rattle.cn_ledger.specs.Laws.{all_inside}
-use Rattle.cn_ledger.proofs.Bound.{bounded, exit-shares}
-use Rattle.cn_ledger.proofs.Kept.{nobody-lost}
+use Rattle.cn_ledger.proofs.Bound.{bounded, exit-shares, nobody-lost}
 
 -- a visit that is not below the share has a name that is not below the number
 least : (m w i v : ℕ) → i < w → share m w i ≤ v → m ≤ name_of w i v
@@ -67,3 +66,6 @@ module _ (t : Table) (w : IsWellFormed t) (l : Ledger) (sound : IsSound t l) whe
 
     pub smooth : IsSmooth (all_inside t l + 1) t l
     smooth i j h k = omega (arith, near-shares i h, near-shares j k, two-shares (all_entered t l) i j h k)
+
+-- what the laws say
+pub ruleset gap_laws = (missing, near-shares, smooth)

@@ -1,8 +1,9 @@
--- The names of the grants that were made from one tight ledger to a later one.
+-- What is granted from one tight ledger to a later one, and the names of a list of these grants.
 use Rattle.cn_ledger.proofs.Common.{◌≡◌, ℕ, ◌+◌, ◌/◌, ◌%◌, ◌<◌, ◌≤◌, true, cond, eqb, List, [], ◌∷◌, length, sum_by, get_or, map, refl, ap, ◌∙◌, arith, nat_tests, ne_eqb, IsEachBelow, once_below, when, each_below, sum-by-same, times-map, Table, Ledger, IsTight, all_entered}
 use Rattle.std.specs.Prelude.{count_by}
 use Rattle.std.proofs.lemmas.List.Sums.{get_or-le-sum_by, sum_by-cons}
 use Rattle.cn_ledger.specs.Grants.{Grant, ListsGrants, is_grant}
+use Rattle.cn_ledger.specs.Between.{GrantsBetween}
 
 -- a grant is itself
 is-itself : (base : ℕ) (g : Grant) → is_grant base g.client g.exit g.visit (g.name + base) g ≡ true
@@ -63,3 +64,36 @@ module _ (t : Table) (old new : Ledger) (grants : List Grant) (k : ℕ) (was : I
     where
       at : (n : ℕ) → count_by (λ g. eqb g.name n) grants ≡ once_below k n
       at n = grind (arith, nat_tests, below n, beyond n)
+
+-- What is granted from one tight ledger to a later one.
+
+module _ (t : Table) (old new : Ledger) (was : IsTight t old) (is : IsTight t new)
+    (kept : (c i v name : ℕ) → old.granted c i v name ≤ new.granted c i v name) where
+  -- who had a name has no other grant of it
+  early : (c i v name : ℕ) → name < all_entered t old → all_entered t old ≤ all_entered t new
+      → new.granted c i v name ≤ old.granted c i v name
+  early c i v name low more =
+      let (d, had) = was.held name low in
+      let (e, has) = is.held name (omega (arith, low, more)) in
+      let still = kept d (name % t.width) (name / t.width) name in
+      grind (arith, nat_tests, is.only c i v name, had c, has c, had d, has d)
+
+  pub between : all_entered t old ≤ all_entered t new → GrantsBetween t old new
+  between more = record {
+    kept = kept;
+    each = λ name high low.
+        let (c, has) = is.held name low in (
+          c,
+          λ d.
+              let none : old.granted d (name % t.width) (name / t.width) name ≡ 0 =
+              grind (arith, was.only d (name % t.width) (name / t.width) name) in
+              omega (arith, none, has d),
+        );
+    only = λ c i v name grew. (
+      grind (arith, early c i v name),
+      (is.only c i v name (omega (arith, grew))).0,
+    );
+  }
+
+-- what the laws say
+pub ruleset grant_laws = (names-each)

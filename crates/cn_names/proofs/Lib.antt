@@ -1,5 +1,3 @@
 mod Common
-pub mod Entries
-pub mod Once
 pub mod Rising
 pub mod Walking

@@ -1,5 +1,7 @@
--- Who is walking, and what the others hold.
-use Rattle.cn_names.proofs.Common.{arith, ◌≡◌, ℕ, suc, true, false, nat_eq, List, [], ◌∷◌, length, None, Some, refl, ap, nat_tests, eq-eqb, IsDistinct-head, IsDistinct-tail, IsDistinct, AllByRecursion, list_any, keys_of, values_of, Standing, Walking, Holds, grants_in}
+-- Who is walking, and what the others hold; each client stands in the list at most once.
+use Rattle.cn_names.proofs.Common.{arith, ◌≡◌, ℕ, suc, true, false, nat_eq, List, [], ◌∷◌, length, None, Some, refl, ap, nat_tests, eq-eqb, IsDistinct-head, IsDistinct-tail, IsDistinct, AllByRecursion, list_any, keys_of, values_of, Standing, Walking, Holds, grants_in, true≢false, count_by, sym, ◌≤◌, ◌∙◌, cond}
+use Rattle.std.proofs.lemmas.List.Sums.{sum_by-cons}
+use Rattle.cn_yard.proofs.CallerLemmas.{times-absent}
 use Rattle.cn_names.specs.Names.{IsWalking, is_walking, standing_of_client}
 
 -- a client from which each client of the list differs has no standing there
@@ -40,3 +42,19 @@ pub length-grants-in : (names : List (ℕ × Standing)) → list_any is_walking 
 length-grants-in [] none = refl
 length-grants-in ((client, Walking token) ∷ names) none = cc
 length-grants-in ((client, Holds name) ∷ names) none = ap suc (length-grants-in names none)
+
+-- where nobody walks, no client does
+pub none-walking : (names : List (ℕ × Standing)) → list_any is_walking (values_of names) ≡ false → (client : ℕ)
+    → IsWalking names client → ⊥
+none-walking names none client (token, found) = true≢false (sym (any-from-walking names client token found) ∙ none)
+
+-- in a list with distinct clients, each client stands at most once
+pub once : (client : ℕ) (names : List (ℕ × Standing)) → IsDistinct nat_eq (keys_of names) → count_by (λ e. nat_eq client e.0) names ≤ 1
+once client [] distinct = omega arith
+once client (e ∷ names) distinct = grind (
+  arith,
+  nat_tests,
+  sum_by-cons (λ (entry : ℕ × Standing). cond (nat_eq client entry.0) 1 0) e names,
+  times-absent names e.0 (stranger e.0 names (IsDistinct-head nat_eq e.0 (keys_of names) distinct)),
+  once client names (IsDistinct-tail nat_eq e.0 (keys_of names) distinct),
+)

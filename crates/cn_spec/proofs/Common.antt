@@ -1,5 +1,5 @@
 -- What many proofs of this crate import: they import it here.
-pub use Rattle.std.proofs.Common.{All, Bool, List, [], add-zero, ap, append_assoc, ap₂, arith, cond, drop, eqb, false, get_or, get_or-set_other, get_or-set_same, inl, inr, le_refl, length, length-append, length-drop, length-take-le, ltb, map, nat_eq, refl, replicate, set, slice_index, subst, subst₂, suc, sum_by, sym, take, true, zero, zero-add, ℕ, ◌%◌, ◌*◌, ◌++◌, ◌+◌, ◌-◌, ◌/◌, ◌<◌, ◌^◌, ◌↔◌, ◌∙◌, ◌∷◌, ◌≡◌, ◌≢◌, ◌≤◌, ◌⊎◌}
+pub use Rattle.std.proofs.Common.{All, Bool, List, [], add-zero, ap, append_assoc, ap₂, arith, cond, drop, eqb, false, get_or, get_or-set_other, get_or-set_same, inl, inr, le_refl, length, length-append, length-drop, length-take-le, ltb, map, nat_eq, not, refl, replicate, set, slice_index, subst, subst₂, suc, sum_by, sym, take, true, zero, zero-add, ℕ, ◌%◌, ◌*◌, ◌++◌, ◌+◌, ◌-◌, ◌/◌, ◌<◌, ◌^◌, ◌↔◌, ◌∙◌, ◌∷◌, ◌≡◌, ◌≢◌, ◌≤◌, ◌⊎◌}
 pub use Rattle.std.specs.List.{count_by, flat_map, range_with_len, sum}
 pub use Rattle.cn_spec.specs.Step.{IsEachBelow, IsStep, counts_after, counts_of, half, name_of, names, names_at, share, shares, shares_after}
 pub use Rattle.cn_spec.specs.Networks.{HasStepChains, IsRow, a_cochain, b_cochain, chain, entries_at, evens, interleave, layer, odds}

@@ -1,8 +1,7 @@
 -- A flow gives each wire a number. The flows of a part of a list of wires are the part of the flows, and no wire is lost.
 use Rattle.cn_spec.proofs.Common.{◌≡◌, ℕ, suc, ◌+◌, ◌*◌, ◌/◌, ◌<◌, true, false, List, [], ◌∷◌, length, map, get_or, refl, sym, ap, ◌∙◌, arith, fill_by_all, get_or-map-range_with_len, length-map-range_with_len, times, entries_at, evens, odds, interleave, a_cochain, b_cochain}
 use Rattle.std.proofs.lemmas.List.{length-map, get_or-map}
-use Rattle.cn_spec.proofs.Pairs.{firsts, seconds, evens-firsts, odds-seconds}
-use Rattle.cn_spec.proofs.Cochains.{in_turn, a-in-turn, b-in-turn}
+use Rattle.cn_spec.proofs.Rows.{part, evens-firsts, odds-seconds, in_turn, a-in-turn, b-in-turn}
 
 -- ---- flows
 
@@ -36,7 +35,7 @@ map-interleave f _ _ = refl
 
 -- ---- how often a wire stands in the parts
 
-times-pairs : (w n : ℕ) (x : List ℕ) → length x ≡ n * 2 → times w (firsts x) + times w (seconds x) ≡ times w x
+times-pairs : (w n : ℕ) (x : List ℕ) → length x ≡ n * 2 → times w (part false x) + times w (part true x) ≡ times w x
 unfolding times
 times-pairs w n [] e = refl
 times-pairs w (suc n) (a ∷ b ∷ x) e = omega (arith, times-pairs w n x (omega arith))

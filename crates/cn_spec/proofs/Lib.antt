@@ -1,22 +1,10 @@
 mod Common
 pub mod Sums
 pub mod Times
-pub mod Halves
 pub mod Shares
 pub mod Names
-pub mod EachBelow
-pub mod Pigeonhole
-pub mod CountShares
-pub mod Interleave
-pub mod Tree
-pub mod Pairs
-pub mod Layers
 pub mod Rows
 pub mod Merger
-pub mod Bitonic
-pub mod Cochains
-pub mod Chains
 pub mod Blocks
-pub mod Periodic
 pub mod Flows
 pub mod CallerLemmas

@@ -1,25 +1,20 @@
--- Merger: of two rows with the step property it makes the tree's row of their sum.
-use Rattle.cn_spec.proofs.Common.{◌≡◌, ℕ, zero, suc, ◌+◌, ◌<◌, ◌≤◌, ◌^◌, List, [], ◌∷◌, refl, sym, ap, ap₂, ◌∙◌, inl, inr, subst, arith, sum, cases_lt, half, shares, IsStep, IsRow, evens, odds, interleave, layer, merge, tree}
-use Rattle.cn_spec.proofs.Pairs.{firsts, seconds, evens-firsts, odds-seconds, firsts-interleave, seconds-interleave}
-use Rattle.cn_spec.proofs.Layers.{sum-layer}
-use Rattle.cn_spec.proofs.Rows.{evens-row, odds-row, layer_row, sum-evens-odds}
-use Rattle.cn_spec.proofs.Tree.{tree-shares, tree-lengths, tree_is-step, step-tree}
+-- Merger: of two rows with the step property it makes the tree's row of their sum. So Bitonic counts.
+use Rattle.cn_spec.proofs.Common.{◌≡◌, ℕ, zero, suc, ◌+◌, ◌<◌, ◌≤◌, ◌^◌, List, [], ◌∷◌, refl, sym, ap, ap₂, ◌∙◌, inl, inr, subst, arith, sum, cases_lt, half, shares, IsStep, IsRow, evens, odds, interleave, layer, merge, tree, length, take, drop, bitonic, false, true, Bool, cond}
+use Rattle.cn_spec.proofs.Rows.{part, evens-firsts, odds-seconds, firsts-interleave, seconds-interleave, sum-layer, evens-row, odds-row, layer_row, sum-evens-odds, front-row, back-row, sum-take-drop}
+use Rattle.cn_spec.proofs.Shares.{tree-shares, tree-lengths, tree_is-step, step-tree, row_is-shares}
 
 -- ---- the parts of the tree's rows
 
-pub firsts-tree : (level m : ℕ) → firsts (tree (suc level) m) ≡ tree level (half m 0)
+pub part-tree : (p : Bool) (level m : ℕ) → part p (tree (suc level) m) ≡ tree level (half m (cond p 1 0))
 unfolding tree
-firsts-tree level m = firsts-interleave _ _ (tree-lengths level (half m 0) (half m 1))
-
-pub seconds-tree : (level m : ℕ) → seconds (tree (suc level) m) ≡ tree level (half m 1)
-unfolding tree
-seconds-tree level m = seconds-interleave _ _ (tree-lengths level (half m 0) (half m 1))
+part-tree false level m = firsts-interleave _ _ (tree-lengths level (half m 0) (half m 1))
+part-tree true level m = seconds-interleave _ _ (tree-lengths level (half m 0) (half m 1))
 
 evens-tree : (level m : ℕ) → evens (tree (suc level) m) ≡ tree level (half m 0)
-evens-tree level m = evens-firsts (tree (suc level) m) ∙ firsts-tree level m
+evens-tree level m = evens-firsts (tree (suc level) m) ∙ part-tree false level m
 
 odds-tree : (level m : ℕ) → odds (tree (suc level) m) ≡ tree level (half m 1)
-odds-tree level m = odds-seconds (tree (suc level) m) ∙ seconds-tree level m
+odds-tree level m = odds-seconds (tree (suc level) m) ∙ part-tree true level m
 
 -- ---- a layer over two of the tree's rows whose sums differ by at most one
 
@@ -120,3 +115,49 @@ sum-merge (suc level) x y e f =
       sum-evens-odds level x e,
       sum-evens-odds level y f,
     )
+
+-- Bitonic: its counts are the shares of the sum of its row.
+
+pub single-is_step : (x : List ℕ) → length x ≡ 1 → IsStep x
+single-is_step x e = record { no_less = λ i j l h. absurd (omega arith); at_most_one_more = λ i j l h. absurd (omega arith) }
+
+-- a row with the step property and this sum
+pub row_steps : (level m : ℕ) (x : List ℕ) → IsRow level x → sum x ≡ m → IsStep x → x ≡ shares m (2 ^ level)
+row_steps level m x e f s = row_is-shares x s ∙ ap₂ shares f e
+
+pub bitonic-row : (level : ℕ) (x : List ℕ) → IsRow level x → IsRow level (bitonic level x)
+unfolding bitonic
+bitonic-row zero x e = e
+bitonic-row (suc level) x e = merge-row level _ _ (bitonic-row level _ (front-row level x e)) (bitonic-row level _ (back-row level x e))
+
+pub sum-bitonic : (level : ℕ) (x : List ℕ) → IsRow level x → sum (bitonic level x) ≡ sum x
+unfolding bitonic
+sum-bitonic zero x e = refl
+sum-bitonic (suc level) x e =
+    let f = front-row level x e in
+    let g = back-row level x e in
+    omega (
+      arith,
+      sum-merge level (bitonic level (take (2 ^ level) x)) (bitonic level (drop (2 ^ level) x)) (bitonic-row level _ f)
+          (bitonic-row level _ g),
+      sum-bitonic level (take (2 ^ level) x) f,
+      sum-bitonic level (drop (2 ^ level) x) g,
+      sum-take-drop (2 ^ level) x,
+    )
+
+pub bitonic-is_step : (level : ℕ) (x : List ℕ) → IsRow level x → IsStep (bitonic level x)
+unfolding bitonic
+bitonic-is_step zero x e = single-is_step x e
+bitonic-is_step (suc level) x e =
+    let f = front-row level x e in
+    let g = back-row level x e in
+    merge-is_step level _ _ (bitonic-row level _ f) (bitonic-row level _ g) (bitonic-is_step level _ f) (bitonic-is_step level _ g)
+
+pub bitonic-shares : (level : ℕ) (x : List ℕ) → IsRow level x → bitonic level x ≡ shares (sum x) (2 ^ level)
+bitonic-shares level x e = row_steps level (sum x) (bitonic level x) (bitonic-row level x e) (sum-bitonic level x e)
+    (bitonic-is_step level x e)
+
+-- what the laws say
+pub ruleset merger_laws = (merge-is_step, merge-shares, merge-row, sum-merge)
+
+pub ruleset bitonic_laws = (bitonic-shares, bitonic-is_step, sum-bitonic)

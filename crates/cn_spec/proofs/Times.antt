@@ -1,6 +1,7 @@
--- How often a number stands in a list.
-use Rattle.cn_spec.proofs.Common.{◌≡◌, ℕ, zero, suc, ◌+◌, ◌<◌, ◌≤◌, ◌⊎◌, inl, inr, cond, eqb, List, [], ◌∷◌, ◌++◌, All, length, get_or, map, refl, sym, ap, ◌∙◌, subst, arith, count_by, range_with_len, sum_by, IsPermutation, cases_eq, eq-eqb, ne_eqb, IsPermutation-cons, IsPermutation-middle, IsPermutation-refl, IsPermutation-sym, IsPermutation-trans, sum_by-IsPermutation, sum_by-cons, sum_below, times, when}
+-- How often a number stands in a list, and lists in which each number below m stands once.
+use Rattle.cn_spec.proofs.Common.{◌≡◌, ℕ, zero, suc, ◌+◌, ◌<◌, ◌≤◌, ◌⊎◌, inl, inr, cond, eqb, List, [], ◌∷◌, ◌++◌, All, length, get_or, map, refl, sym, ap, ◌∙◌, subst, arith, count_by, range_with_len, sum_by, IsPermutation, cases_eq, eq-eqb, ne_eqb, IsPermutation-cons, IsPermutation-middle, IsPermutation-refl, IsPermutation-sym, IsPermutation-trans, sum_by-IsPermutation, sum_by-cons, sum_below, times, when, subst₂, append_assoc, lt-ltb, le-ltb, nat_tests, IsPermutation-append_left, IsPermutation-append_right, IsPermutation-append_comm, IsEachBelow, IsOnceBelow, once_below, length-append}
 use Rattle.cn_spec.proofs.Sums.{sum-below-one, sum-below-plus, sum-below-same, sum-below-zero}
+use Rattle.cn_spec.proofs.Names.{range_next}
 
 pub times-nil : (w : ℕ) → times w [] ≡ 0
 unfolding times
@@ -109,3 +110,74 @@ times-below n (e ∷ es) all =
     let rest = times-below n es (λ k d less. all (suc k) d (omega arith)) in
     let swap = sum-below-same n (λ u. when (eqb e u) 1 + times u es) (λ u. when (eqb e u) 1 + times u es) (λ u l. refl) in
     omega (arith, sum-below-plus n (λ u. when (eqb e u) 1) (λ u. times u es))
+
+-- A list in which each number below m stands once is an order of those numbers.
+
+-- one number more
+pub once-next : (m n : ℕ) → once_below (suc m) n ≡ once_below m n + cond (eqb m n) 1 0
+once-next m n = grind (arith, nat_tests)
+
+-- the greatest number put in anywhere
+pub each_more : (m : ℕ) (xs front back : List ℕ) → xs ≡ front ++ m ∷ back → IsEachBelow m (front ++ back) → IsEachBelow (suc m) xs
+each_more m xs front back e rest =
+    let a : IsPermutation (range_with_len 0 m ++ m ∷ []) ((front ++ back) ++ m ∷ []) =
+    IsPermutation-append_left (m ∷ []) (range_with_len 0 m) (front ++ back) rest in
+    let b : IsPermutation (front ++ (back ++ m ∷ [])) (front ++ m ∷ back) =
+    IsPermutation-append_right front (back ++ m ∷ []) (m ∷ back) (IsPermutation-append_comm back (m ∷ [])) in
+    let c : IsPermutation ((front ++ back) ++ m ∷ []) (front ++ m ∷ back) =
+    subst (λ ys. IsPermutation ys (front ++ m ∷ back)) (sym (append_assoc front back (m ∷ []))) b in
+    subst₂ IsPermutation (sym (range_next m)) (sym e) (IsPermutation-trans _ _ _ a c)
+
+pub each_below : (m : ℕ) (xs : List ℕ) → IsOnceBelow m xs → IsEachBelow m xs
+each_below zero [] once = IsPermutation-refl []
+each_below zero (x ∷ xs) once =
+    let one : ◌≡◌ {A = ℕ} (cond (eqb x x) 1 0) 1 = ap {B = ℕ} (λ q. cond q 1 0) (eq-eqb x x refl) in
+    let none : once_below 0 x ≡ 0 = ap {B = ℕ} (λ q. cond q 1 0) (le-ltb x 0 (omega arith)) in
+    absurd (omega (arith, times-cons x x xs, once x))
+each_below (suc m) xs once =
+    let there : once_below (suc m) m ≡ 1 = ap {B = ℕ} (λ q. cond q 1 0) (lt-ltb m (suc m) (omega arith)) in
+    let (front, back, e) = times-parts m xs (omega (arith, once m)) in
+    let rest = each_below m (front ++ back) (λ n.
+    let whole : times n xs ≡ times n (front ++ m ∷ back) = ap (times n) e in
+    omega (arith, once n, once-next m n, times-append n front (m ∷ back), times-cons n m back, times-append n front back)) in
+    each_more m xs front back e rest
+
+-- A list of m numbers in which each number below m stands is an order of those numbers, and in an order of them each
+-- stands once.
+
+pub all_below : (m : ℕ) (xs : List ℕ) → length xs ≡ m → ((n : ℕ) → n < m → 1 ≤ times n xs) → IsEachBelow m xs
+all_below zero [] size there = IsPermutation-refl []
+all_below zero (x ∷ xs) size there = absurd (omega (arith, size))
+all_below (suc m) xs size there =
+    let (front, back, e) = times-parts m xs (there m (omega arith)) in
+    let long : length xs ≡ length front + (length back + 1) = ap length e ∙ length-append front (m ∷ back) ∙ omega arith in
+    each_more m xs front back e (all_below m (front ++ back) (omega (arith, size, long, length-append front back)) (λ n h.
+    let whole : times n xs ≡ times n (front ++ m ∷ back) = ap (times n) e in
+    let other : ◌≡◌ {A = ℕ} (cond (eqb m n) 1 0) 0 = ap {B = ℕ} (λ q. cond q 1 0) (ne_eqb m n (λ x. omega (arith, x, h))) in
+    omega (
+      arith,
+      there n (omega (arith, h)),
+      whole,
+      other,
+      times-append n front (m ∷ back),
+      times-cons n m back,
+      times-append n front back,
+    )))
+
+once-range : (m n : ℕ) → times n (range_with_len 0 m) ≡ once_below m n
+once-range zero n = times-nil n ∙ grind (arith, nat_tests)
+once-range (suc m) n =
+    let list : times n (range_with_len 0 (suc m)) ≡ times n (range_with_len 0 m ++ m ∷ []) = ap (times n) (range_next m) in
+    omega (arith, list, once-range m n, once-next m n, times-append n (range_with_len 0 m) (m ∷ []), times-cons n m [], times-nil n)
+
+pub once_each : (m : ℕ) (xs : List ℕ) → IsEachBelow m xs → IsOnceBelow m xs
+once_each m xs each n = times-order (range_with_len 0 m) xs n each ∙ once-range m n
+
+pub at_most_once : (m n : ℕ) → once_below m n ≤ 1
+at_most_once m n = grind (arith, nat_tests)
+
+pub once-there : (m n : ℕ) → n < m → once_below m n ≡ 1
+once-there m n h = grind (arith, nat_tests)
+
+pub once-in : (m n : ℕ) → 1 ≤ once_below m n → n < m
+once-in m n h = grind (arith, nat_tests)

@@ -24,23 +24,27 @@ pub fn limits_are()
 
 /// A row of counts has the step property exactly if each count is its share of the sum (Aspnes, Herlihy, Shavit 1994,
 /// section 2.2).
+#[tactic(auto, using(crate::proofs::Shares::share_laws))]
 pub fn step_is_shares()
     ensures { (counts : List ℕ) → IsStep counts ↔ (counts ≡ shares (sum counts) (length counts)) }
 {}
 
 /// The two halves of what passes a balancer, and the shares of all exits, are the whole: no token is lost or made.
+#[tactic(auto, using(crate::proofs::Shares::share_laws))]
 pub fn shares_conserve()
     ensures halves { (n : ℕ) → half n 0 + half n 1 ≡ n }
     ensures shares { (m w : ℕ) → 0 < w → sum (shares m w) ≡ m }
 {}
 
 /// The shares of tokens that come after no others are their shares.
+#[tactic(auto, using(crate::proofs::Names::count_laws))]
 pub fn first_shares_are_shares()
     ensures { (k w : ℕ) → shares_after 0 k w ≡ shares k w }
 {}
 
 /// The names that the exits give out among m tokens are the numbers below m, each once; and a name determines its exit
 /// and its visit.
+#[tactic(auto, using(crate::proofs::Names::name_laws))]
 pub fn names_are_tight()
     ensures each_once { (m w : ℕ) → 0 < w → IsEachBelow m (names m w) }
     ensures below { (m w i v : ℕ) → i < w → (v < share m w i) ↔ (name_of w i v < m) }
@@ -49,12 +53,14 @@ pub fn names_are_tight()
 {}
 
 /// A list in which each number below m stands once, and no other number, is an order of those numbers.
+#[tactic(auto, using(crate::proofs::Times::each_below))]
 pub fn once_below_is_each_below()
     ensures { (m : ℕ) (xs : List ℕ) → IsOnceBelow m xs → IsEachBelow m xs }
 {}
 
 /// A list of m numbers in which each number below m stands is an order of those numbers; and in an order of them each
 /// stands once, and no other number does.
+#[tactic(auto, using(crate::proofs::Times::all_below, crate::proofs::Times::once_each))]
 pub fn all_below_is_each_below()
     ensures all_stand { (m : ℕ) (xs : List ℕ) → length xs ≡ m
         → ((n : ℕ) → n < m → 1 ≤ times n xs) → IsEachBelow m xs }
@@ -63,6 +69,7 @@ pub fn all_below_is_each_below()
 
 /// Of the names below k, in any order, as many are those of an exit as its share of k; and if m is taken from each,
 /// since m tokens came before, as its share of m + k minus its share of m.
+#[tactic(auto, using(crate::proofs::Names::count_laws))]
 pub fn tight_names_are_shared()
     ensures first { (w k : ℕ) (names : List ℕ) → IsEachBelow k names → counts_of w names ≡ shares k w }
     ensures after { (w m k : ℕ) (names : List ℕ) → IsEachBelow k names
@@ -71,6 +78,7 @@ pub fn tight_names_are_shared()
 
 /// The merger of two rows with the step property has it (Aspnes, Herlihy, Shavit 1994, section 3), and no token is
 /// lost or made.
+#[tactic(auto, using(crate::proofs::Merger::merger_laws))]
 pub fn merger_counts()
     ensures is_step { (level : ℕ) (x y : List ℕ) → IsRow level x → IsRow level y
         → IsStep x → IsStep y → IsStep (merge level x y) }
@@ -84,6 +92,7 @@ pub fn merger_counts()
 
 /// The bitonic network's counts are the shares of what enters, whatever enters (Aspnes, Herlihy, Shavit 1994,
 /// section 3): so they have the step property, and no token is lost or made.
+#[tactic(auto, using(crate::proofs::Merger::bitonic_laws))]
 pub fn bitonic_counts()
     ensures shares { (level : ℕ) (x : List ℕ) → IsRow level x
         → bitonic level x ≡ shares (sum x) (2 ^ level) }
@@ -93,6 +102,7 @@ pub fn bitonic_counts()
 
 /// The chains of a row's own level are its single counts, so each has the step property; and the chain of level 0 is
 /// the row (Aspnes, Herlihy, Shavit 1994, section 4).
+#[tactic(auto, using(crate::proofs::Blocks::chain_laws))]
 pub fn highest_and_lowest_chains()
     ensures highest { (level : ℕ) (x : List ℕ) → IsRow level x → HasStepChains level x }
     ensures lowest { (x : List ℕ) → HasStepChains 0 x ↔ IsStep x }
@@ -100,6 +110,7 @@ pub fn highest_and_lowest_chains()
 
 /// A block lowers by one the level of the chains that have the step property (Aspnes, Herlihy, Shavit 1994, section 4),
 /// a block over two wires is one balancer, and no token is lost or made.
+#[tactic(auto, using(crate::proofs::Blocks::block_laws))]
 pub fn block_lowers_chains()
     ensures lowers { (level i : ℕ) (x : List ℕ) → i < level → IsRow level x
         → HasStepChains (suc i) x → HasStepChains i (block level x) }
@@ -110,6 +121,7 @@ pub fn block_lowers_chains()
 
 /// The periodic network's counts are the shares of what enters, whatever enters (Aspnes, Herlihy, Shavit 1994,
 /// section 4): so they have the step property, and no token is lost or made.
+#[tactic(auto, using(crate::proofs::Blocks::periodic_laws))]
 pub fn periodic_counts()
     ensures shares { (level : ℕ) (x : List ℕ) → IsRow level x
         → periodic level x ≡ shares (sum x) (2 ^ level) }
@@ -119,6 +131,7 @@ pub fn periodic_counts()
 
 /// The tree's counts are the shares of what enters (Shavit, Zemach 1996, section 2): so they have the step property,
 /// and no token is lost or made.
+#[tactic(auto, using(crate::proofs::Shares::tree_laws))]
 pub fn tree_counts()
     ensures shares { (level m : ℕ) → tree level m ≡ shares m (2 ^ level) }
     ensures is_step { (level m : ℕ) → IsStep (tree level m) }

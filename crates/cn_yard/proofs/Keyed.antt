@@ -1,7 +1,9 @@
 -- Lists of keys with values, as of tokens with their clients: look-ups, counts and sums where an entry is added or taken
 -- out, and where one key's value changes.
-use Rattle.cn_yard.proofs.Common.{◌≡◌, ◌≢◌, ℕ, ◌+◌, ◌≤◌, ◌&&◌, Bool, cond, nat_eq, eqb, List, [], ◌∷◌, ◌++◌, refl, arith, Some, None, count_by, last_on, lookup, nat_tests, without, set_value, values_of, when, cases_Bool, sum_by, sum_by-cons}
+use Rattle.cn_yard.proofs.Common.{◌≡◌, ◌≢◌, ℕ, ◌+◌, ◌≤◌, ◌&&◌, Bool, cond, nat_eq, eqb, List, [], ◌∷◌, ◌++◌, refl, arith, Some, None, count_by, last_on, lookup, nat_tests, without, set_value, values_of, when, cases_Bool, sum_by, sum_by-cons, ap, ◌∙◌}
 use Rattle.std.proofs.lemmas.Map.Entries.{sum_by-set_value}
+use Rattle.std.proofs.lemmas.List.{map_push}
+use Rattle.std.proofs.lemmas.List.Sums.{sum_by_push}
 
 -- a look-up after a new key
 pub lookup-push : {X : Type 0} (es : List (ℕ × X)) (k : ℕ) (x : X) (q : ℕ)
@@ -18,13 +20,7 @@ lookup-set (e ∷ es) k x y q here = grind (arith, nat_tests, lookup-set es k x 
 -- how often a key is there after a new one
 pub times-push : {X : Type 0} (es : List (ℕ × X)) (k : ℕ) (x : X) (q : ℕ)
     → count_by (λ e. nat_eq q e.0) (es ++ (k, x) ∷ []) ≡ count_by (λ e. nat_eq q e.0) es + cond (nat_eq q k) 1 0
-times-push [] k x q = grind arith
-times-push (e ∷ es) k x q = omega (
-  arith,
-  times-push es k x q,
-  sum_by-cons (λ y. cond (nat_eq q y.0) 1 0) e (es ++ (k, x) ∷ []),
-  sum_by-cons (λ y. cond (nat_eq q y.0) 1 0) e es,
-)
+times-push es k x q = sum_by_push (λ e. cond (nat_eq q e.0) 1 0) es (k, x)
 
 -- a key that is not found is not there
 pub times-absent : {X : Type 0} (es : List (ℕ × X)) (k : ℕ) → lookup (nat_eq k) es ≡ None → count_by (λ e. nat_eq k e.0) es ≡ 0
@@ -47,13 +43,8 @@ times-set (e ∷ es) k x q = grind (
 -- how many values pass after a new key
 pub count-push : {X : Type 0} (p : X → Bool) (es : List (ℕ × X)) (k : ℕ) (x : X)
     → count_by p (values_of (es ++ (k, x) ∷ [])) ≡ count_by p (values_of es) + cond (p x) 1 0
-count-push p [] k x = grind arith
-count-push p (e ∷ es) k x = omega (
-  arith,
-  count-push p es k x,
-  sum_by-cons (λ y. cond (p y) 1 0) e.1 (values_of (es ++ (k, x) ∷ [])),
-  sum_by-cons (λ y. cond (p y) 1 0) e.1 (values_of es),
-)
+count-push p es k x =
+    ap (count_by p) (map_push (λ (e : ℕ × _). e.1) es (k, x)) ∙ sum_by_push (λ y. cond (p y) 1 0) (values_of es) x
 
 -- how many values pass after a change of one key's value
 pub count-set : {X : Type 0} (p : X → Bool) (es : List (ℕ × X)) (k : ℕ) (x y : X)
@@ -62,11 +53,6 @@ pub count-set : {X : Type 0} (p : X → Bool) (es : List (ℕ × X)) (k : ℕ) (
 count-set p es k x y here = sum_by-set_value (λ z. cond (p z) 1 0) (nat_eq k) es y x here
 
 -- ---- counts of entries, by key and value
-
--- a sum over the entries after a new one
-pub sum-by-push : {X : Type 0} (f : ℕ × X → ℕ) (es : List (ℕ × X)) (k : ℕ) (x : X) → sum_by f (es ++ (k, x) ∷ []) ≡ sum_by f es + f (k, x)
-sum-by-push f [] k x = grind arith
-sum-by-push f (e ∷ es) k x = omega (arith, sum-by-push f es k x, sum_by-cons f e (es ++ (k, x) ∷ []), sum_by-cons f e es)
 
 -- a sum over the entries after a change of one key's value
 pub sum_by-set : {X : Type 0} (f : ℕ × X → ℕ) (es : List (ℕ × X)) (k : ℕ) (x y : X)
@@ -84,7 +70,7 @@ sum_by-set f ((j, z) ∷ es) k x y here = grind (
 -- how many entries have this key and a value that passes, after a new key
 pub count-pair-push : {X : Type 0} (p : X → Bool) (q : ℕ) (es : List (ℕ × X)) (k : ℕ) (x : X)
     → count_by (λ e. nat_eq q e.0 && p e.1) (es ++ (k, x) ∷ []) ≡ count_by (λ e. nat_eq q e.0 && p e.1) es + cond (nat_eq q k && p x) 1 0
-count-pair-push p q es k x = sum-by-push (λ e. cond (nat_eq q e.0 && p e.1) 1 0) es k x
+count-pair-push p q es k x = sum_by_push (λ e. cond (nat_eq q e.0 && p e.1) 1 0) es (k, x)
 
 -- the same after a change of one key's value
 pub count-pair-set : {X : Type 0} (p : X → Bool) (q : ℕ) (es : List (ℕ × X)) (k : ℕ) (x y : X)
@@ -142,17 +128,14 @@ lookup-gone token [] = refl
 lookup-gone token (e ∷ es) = grind (arith, nat_tests, lookup-gone token es)
 
 -- a token that is not in the list is not taken out of it
+pub without-same : (token : ℕ) (es : List (ℕ × ℕ)) → count_by (λ e. nat_eq token e.0) es ≡ 0 → without token es ≡ es
+without-same token [] none = refl
+without-same token (e ∷ es) none =
+    grind (arith, nat_tests, without-same token es, sum_by-cons (λ (x : ℕ × ℕ). cond (nat_eq token x.0) 1 0) e es)
+
 pub without-none : (token : ℕ) (es : List (ℕ × ℕ)) (f : ℕ × ℕ → ℕ) → count_by (λ e. eqb token e.0) es ≡ 0
     → sum_by f (without token es) ≡ sum_by f es
-without-none token [] f none = refl
-without-none token (e ∷ es) f none = grind (
-  arith,
-  nat_tests,
-  without-none token es f,
-  sum_by-cons (λ (x : ℕ × ℕ). cond (eqb token x.0) 1 0) e es,
-  sum_by-cons f e (without token es),
-  sum_by-cons f e es,
-)
+without-none token es f none = ap (sum_by f) (without-same token es none)
 
 -- a token that is there once is taken out
 pub without-one : (token client : ℕ) (es : List (ℕ × ℕ)) (f : ℕ × ℕ → ℕ) → count_by (λ e. eqb token e.0) es ≤ 1

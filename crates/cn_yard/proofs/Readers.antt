@@ -1,7 +1,6 @@
 -- What a yard's readers return.
 use Rattle.cn_yard.proofs.Common.{◌≡◌, ℕ, ◌+◌, ◌*◌, ◌<◌, ◌≤◌, inl, inr, true, false, cond, eqb, ltb, List, [], ◌∷◌, length, get_or, refl, sym, ap, ◌∙◌, arith, subst, Option, Some, None, IsSome, IsTrue, ◌↔◌, Inside, Keeps, Line, Record, cases_lt, client_of, count_of, line_of, lists_of, marked, nat_tests, next_of, no_line, on, prev_of, standing, times, tokens_in, wire_of, get_or_read, nil_from_length, MOST_TOKENS, IsLowest, IsThere, next_after, first_of, last_or, Ends, no_record, IsYard, with_clients}
-use Rattle.cn_yard.proofs.Bare.{bare-count, bare-on, bare-records, bare-tokens, on-beyond, opened}
-use Rattle.cn_yard.proofs.Wires.{after-clients, length-on, live, on-wire, standing-live, there-live, tokens-are}
+use Rattle.cn_yard.proofs.Wires.{bare-count, bare-on, bare-records, bare-tokens, kept-live, on-beyond, opened, after-clients, length-on, live, on-wire, standing-live, there-live, tokens-are}
 use Rattle.cn_yard.proofs.There.{first}
 
 module _ (y : Inside) (order : ℕ → List ℕ) (k : Keeps y order) where
@@ -38,13 +37,6 @@ module _ (y : Inside) (order : ℕ → List ℕ) (k : Keeps y order) where
   stands-read t r stands at =
       let (h, on') = live y order k t stands in
       standing-live y order k t h on' ∙ ap (λ (s : Record). Some (s.wire, s.client)) (sym (record-read t r h at))
-
-  -- a token is where its record says
-  pub there-read : (t : ℕ) (r : Record) → IsSome (standing (lists_of y) t) → r ≡ get_or y.records.items t r
-      → IsThere (lists_of y) t r.client r.wire
-  there-read t r stands at =
-      let (h, on') = live y order k t stands in
-      rw (record-read t r h at) (there-live y order k t stands)
 
   -- its wire is one of the wires
   pub wire-read : (t : ℕ) (r : Record) → IsSome (standing (lists_of y) t) → r ≡ get_or y.records.items t r → r.wire < y.wires
@@ -120,10 +112,17 @@ module _ (y : Inside) (order : ℕ → List ℕ) (k : Keeps y order) where
         → on (lists_of y) u ≡ []
     none-read least h lower u = nobody-at u (λ l w. lower u w (omega arith))
 
-    pub nobody-read : ((n : ℕ) → 64 * word ≤ n → marked y.marks.items n ≡ 0) → (u : ℕ) → on (lists_of y) u ≡ []
-    nobody-read lower u = nobody-at u (λ _ w. lower u w)
-
 -- ---- of each yard, with lines or bare
+
+-- a token that stands there is a record, and is where that says
+module _ (y : Inside) (is : IsYard y) (t : ℕ) (stands : IsSome (standing (lists_of y) t)) where
+  pub live-number : t < length y.records.items
+  live-number = let (order, k) = kept-live y t is stands in (live y order k t stands).0
+
+  pub live-there : (r : Record) → r ≡ get_or y.records.items t r → IsThere (lists_of y) t r.client r.wire
+  live-there r at =
+      let (order, k) = kept-live y t is stands in
+      rw (record-read y order k t r live-number at) (there-live y order k t stands)
 
 module _ (y : Inside) (is : IsYard y) where
   -- as many stand on a wire as its line counts

@@ -1,6 +1,6 @@
 -- The tokens of a wire, dealt to two others one after the other.
 use Rattle.cn_yard.proofs.Common.{◌≡◌, ◌≢◌, ℕ, zero, suc, ◌+◌, ◌-◌, ◌%◌, ◌<◌, ◌≤◌, cond, Bool, true, false, List, [], ◌∷◌, ◌++◌, length, refl, sym, ap, ◌∙◌, subst, arith, Some, add-zero, append-nil, ◌==◌, Yard, last_on, nat_tests, on, standing, times_in, tokens_in, eq-eqb, ne_eqb, append_assoc, length_push, Deals, IsDealt, every_second, out_of, Moves}
-use Rattle.cn_yard.proofs.Taken.{IsFirst, first-there, once-moved, others-on, rest-on}
+use Rattle.cn_yard.proofs.There.{IsFirst, first-there, once-moved, others-on, rest-on}
 
 -- ---- one after the other
 
@@ -40,7 +40,7 @@ begins outs output wire old low once = record {
   wires = refl;
 }
 
-module _ (outs : ℕ → ℕ) (output wire : ℕ) (old y : Yard) (turn token : ℕ) (is : IsDealing outs output wire old y turn)
+module _ {outs : ℕ → ℕ} {output wire : ℕ} {old y : Yard} {turn token : ℕ} (is : IsDealing outs output wire old y turn)
     (inside : wire < length old.lists) (next : IsFirst wire y token) where
   within : wire < length y.lists
   within = omega (arith, inside, is.wires)
@@ -56,9 +56,9 @@ module _ (outs : ℕ → ℕ) (output wire : ℕ) (old y : Yard) (turn token : �
       let none : last_on token next.client to wire ≡ [] = grind (arith, nat_tests) in
       moves.lists wire ∙ rw (left, none) (append-nil next.after)
 
-  pub goes-on : (z : Yard) (to : ℕ) → to ≡ outs turn → to < length old.lists → wire ≢ to → Moves y z token next.client to
-      → IsDealing outs output wire old z (1 - turn)
-  goes-on z to at lands differ moves = record {
+  pub goes-on : {z : Yard} {to : ℕ} → to ≡ outs turn → to < length old.lists → wire ≢ to
+      → Moves y z token next.client to → IsDealing outs output wire old z (1 - turn)
+  goes-on {z} {to} at lands differ moves = record {
     done = is.done ++ (token, next.client) ∷ [];
     rest = next.after;
     whole = is.whole ∙ ap (λ (es : List (ℕ × ℕ)). is.done ++ es) (sym is.left ∙ next.begins)
@@ -72,13 +72,14 @@ module _ (outs : ℕ → ℕ) (output wire : ℕ) (old y : Yard) (turn token : �
   }
 
   -- one is left less
-  pub fewer : (z : Yard) (to : ℕ) → wire ≢ to → Moves y z token next.client to → length (on z.lists wire) < length (on y.lists wire)
-  fewer z to differ moves = omega (arith, ap length (rest-stays z to differ moves), ap length next.begins)
+  pub fewer : {z : Yard} {to : ℕ} → wire ≢ to → Moves y z token next.client to
+      → length (on z.lists wire) < length (on y.lists wire)
+  fewer {z} {to} differ moves = omega (arith, ap length (rest-stays z to differ moves), ap length next.begins)
 
 -- in the end all were moved
-pub ends : (outs : ℕ → ℕ) (output wire : ℕ) (old now : Yard) (turn : ℕ) → IsDealing outs output wire old now turn → on now.lists wire ≡ []
-    → Deals outs output (on old.lists wire) old now
-ends outs output wire old now turn is none =
+pub ends : {outs : ℕ → ℕ} {output wire : ℕ} {old now : Yard} {turn : ℕ} → IsDealing outs output wire old now turn
+    → on now.lists wire ≡ [] → Deals outs output (on old.lists wire) old now
+ends {outs} {output} {wire} {old} {now} is none =
     let whole : on old.lists wire ≡ is.done =
     is.whole ∙ ap (λ (es : List (ℕ × ℕ)). is.done ++ es) (sym is.left ∙ none) ∙ append-nil is.done in
     subst (λ (es : List (ℕ × ℕ)). Deals outs output es old now) (sym whole) is.dealt

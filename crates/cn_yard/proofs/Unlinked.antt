@@ -1,18 +1,19 @@
 -- A record is taken off its line.
-use Rattle.cn_yard.proofs.Common.{◌≡◌, ◌≢◌, ℕ, ◌-◌, ◌<◌, ◌≤◌, inl, inr, true, false, cond, eqb, List, [], ◌∷◌, length, set, refl, sym, ap, ◌∙◌, arith, subst, ◌||◌, Line, Record, but, cases_eq, count_of, line_of, nat_tests, next_of, no_line, prev_of, times, times-nil, wire_of, cases_Bool, get_or-set_other, get_or-set_same, length-set, Chain, head_or, last_or, Ends, IsOff, Linked, line_without, IsLink, times-cons}
-use Rattle.cn_yard.proofs.Chains.{but-cons, but-head, but-out, chain-but, chain-but-last, chain-rest, chain-same, chain-tied, last-but, last-in, last-left, length-but, next-in, prev-in, tail_of, times-but}
+use Rattle.cn_yard.proofs.Common.{◌≡◌, ◌≢◌, ℕ, ◌<◌, ◌≤◌, inl, inr, true, false, cond, eqb, List, [], ◌∷◌, length, set, refl, sym, ap, ◌∙◌, arith, subst, ◌||◌, Line, Record, but, cases_eq, count_of, line_of, nat_tests, next_of, no_line, prev_of, times, times-nil, wire_of, cases_Bool, get_or-set_other, get_or-set_same, length-set, Chain, head_or, last_or, Ends, IsOff, Linked, line_without, IsLink, times-cons}
+use Rattle.cn_yard.proofs.Chains.{but-cons, but-head, but-out, chain-but, chain-but-last, chain-same, last-but, last-in, last-left, length-but, next-in, prev-in, tail_of, times-but}
 
 -- ---- what is left of one line, with its links n and p
 
 module _ (n p : ℕ → ℕ) where
   -- the first of those that are left, where the first is taken
   head-left : (t x : ℕ) (xs : List ℕ) → Chain n p (x ∷ xs) → x ≡ t → times t (x ∷ xs) ≡ 1 → head_or (n t) (but t (x ∷ xs)) ≡ n t
+  unfolding Chain
   head-left t x [] c h one = let gone : but t (x ∷ []) ≡ [] = grind (arith, nat_tests) in rw gone refl
   head-left t x (y ∷ ys) c h one =
       let m = times-cons t x (y ∷ ys) in
       let out = but-out t (y ∷ ys) (grind (arith, nat_tests)) in
       let gone : but t (x ∷ y ∷ ys) ≡ but t (y ∷ ys) = grind (arith, nat_tests) in
-      rw (gone, out) (sym (chain-tied n p x y ys c).0 ∙ ap n h)
+      rw (gone, out) (sym c.0.0 ∙ ap n h)
 
   -- the last of those that are left, where the last is taken
   tail-left : (t x : ℕ) (xs : List ℕ) → Chain n p (x ∷ xs) → times t (x ∷ xs) ≡ 1 → last_or x xs ≡ t
@@ -47,10 +48,11 @@ module _ (n p : ℕ → ℕ) where
   -- the links, where it was at an end
   pub chain-end : (line : Line) (t : ℕ) (xs : List ℕ) → Ends line xs → Chain n p xs → times t xs ≡ 1
       → (eqb line.first t || eqb line.last t) ≡ true → Chain n p (but t xs)
+  unfolding Chain
   chain-end line t [] e c one end = absurd (omega (arith, times-nil t))
   chain-end line t (x ∷ xs) e c one end =
       elim (cases_eq x t) [
-        | inl h ↦ rw h (rw (but-head t xs (rw h at (let k : times t (x ∷ xs) ≤ 1 = omega arith in k))) (chain-rest n p x xs c))
+        | inl h ↦ rw h (rw (but-head t xs (rw h at (let k : times t (x ∷ xs) ≤ 1 = omega arith in k))) c.1)
         | inr o ↦ let at = e.first in let l : line.last ≡ t = grind (arith, nat_tests) in
             chain-but-last n p t line.last (x ∷ xs) c (e.last ∙ l) (omega arith)
       ]
@@ -109,10 +111,10 @@ pub record Unlinks (records : List Record) (lines : List Line) (records' : List 
       (line_without (line_of lines (wire_of records t)) t (prev_of records t) (next_of records t))
 
 -- then the records but the links, and the counts, are as stated
-pub off-kept : (records : List Record) (lines : List Line) (records' : List Record) (lines' : List Line) (t : ℕ)
+pub off-kept : {records records' : List Record} {lines lines' : List Line} {t : ℕ}
     → wire_of records t < length lines → 1 ≤ count_of lines (wire_of records t)
     → Unlinks records lines records' lines' t → IsOff records lines records' lines' t
-off-kept records lines records' lines' t h some un =
+off-kept {records} {records'} {lines} {lines'} {t} h some un =
     let w = wire_of records t in
     let new = line_without (line_of lines w) t (prev_of records t) (next_of records t) in
     let which = cases_Bool (eqb (line_of lines w).first t || eqb (line_of lines w).last t) in
@@ -128,11 +130,11 @@ off-kept records lines records' lines' t h some un =
     }
 
 -- and the lines run through the lists without the number
-pub off-linked : (records : List Record) (lines : List Line) (records' : List Record) (lines' : List Line) (order : ℕ → List ℕ) (t : ℕ)
+pub off-linked : {records records' : List Record} {lines lines' : List Line} {order : ℕ → List ℕ} {t : ℕ}
     → Linked records lines order → wire_of records t < length lines → times t (order (wire_of records t)) ≡ 1
     → Unlinks records lines records' lines' t → IsOff records lines records' lines' t
     → Linked records' lines' (λ u. but t (order u))
-off-linked records lines records' lines' order t l h one un kept =
+off-linked {records} {records'} {lines} {lines'} {order} {t} l h one un kept =
     let w = wire_of records t in
     let n = next_of records in
     let p = prev_of records in
@@ -186,16 +188,16 @@ off-linked records lines records' lines' order t l h one un kept =
 times-le : (t : ℕ) (xs : List ℕ) → times t xs ≤ length xs
 times-le t xs = omega (arith, length-but t xs)
 
-pub some-there : (records : List Record) (lines : List Line) (order : ℕ → List ℕ) → Linked records lines order → (t u : ℕ)
-    → u < length lines → 1 ≤ times t (order u) → 1 ≤ count_of lines u
-some-there records lines order l t u h some = omega (arith, (l.ends u h).count, times-le t (order u))
+pub some-there : {records : List Record} {lines : List Line} {order : ℕ → List ℕ} → Linked records lines order
+    → (t u : ℕ) → u < length lines → 1 ≤ times t (order u) → 1 ≤ count_of lines u
+some-there {records} {lines} {order} l t u h some = omega (arith, (l.ends u h).count, times-le t (order u))
 
 -- the neighbours of a record that is at neither end are records
-pub near-below : (records : List Record) (lines : List Line) (order : ℕ → List ℕ) → Linked records lines order → (t : ℕ)
+pub near-below : {records : List Record} {lines : List Line} {order : ℕ → List ℕ} → Linked records lines order → (t : ℕ)
     → wire_of records t < length lines → times t (order (wire_of records t)) ≡ 1
     → (eqb (line_of lines (wire_of records t)).first t || eqb (line_of lines (wire_of records t)).last t) ≡ false
     → (prev_of records t < length records) × (next_of records t < length records)
-near-below records lines order l t h one mid =
+near-below {records} {lines} {order} l t h one mid =
     let w = wire_of records t in
     let near = neighbours (next_of records) (prev_of records) (line_of lines w) t (order w) (l.ends w h) (l.chain w h) one mid in
     (l.below (prev_of records t) w h near.0, l.below (next_of records t) w h near.1)

@@ -1,9 +1,91 @@
--- What stands on the wires of a yard.
-use Rattle.cn_yard.proofs.Common.{◌≡◌, ◌≢◌, ℕ, zero, suc, ◌+◌, ◌<◌, ◌≤◌, inl, inr, cond, nat_eq, eqb, ltb, List, [], ◌∷◌, ◌++◌, length, refl, sym, ap, ◌∙◌, arith, Some, None, Inside, Keeps, but, cases_lt, client_of, count_by, count_of, last_on, line_of, lists_of, lookup, moved, nat_tests, next_of, on, prev_of, standing, times, times-nil, times_in, tokens_in, wire_of, without, IsSome, length-map, map-append, sum_by-cons, get_or-map-range_with_len, sum_below, times-cons, sum-below-next, sum-below-same, IsThere, next_after, Chain, last_of, last_or, walked, with_clients}
-use Rattle.cn_yard.proofs.There.{there}
-use Rattle.cn_yard.proofs.Bare.{on-beyond, wires-are}
-use Rattle.cn_yard.proofs.Chains.{chain-rest, chain-tied, last-in, times-but, walk-chain}
-use Rattle.cn_yard.proofs.Standings.{standing-none, standing-only}
+-- What stands on the wires of a yard, which has lines or is bare.
+use Rattle.cn_yard.proofs.Common.{◌≡◌, ◌⊎◌, inl, inr, ℕ, ◌<◌, ◌≤◌, List, [], length, refl, sym, ap, ◌∙◌, arith, None, Inside, Keeps, Line, Lists, Yard, cases_lt, client_of, count_by, count_of, lists_of, on, standing, times_in, tokens_in, yard_of, IsSome, nat_eq, replicate, range_with_len, ext_get_or, get_or_past, get_or-replicate, length-map, length-replicate, get_or-map-range_with_len, length-range_with_len, sum-below-zero, empty, walk, IsBare, IsYard, walked, with_clients, zero, suc, ◌+◌, cond, eqb, ltb, ◌∷◌, Some, but, last_on, line_of, lookup, nat_tests, next_of, prev_of, times, times-nil, wire_of, without, sum_by-cons, sum_below, times-cons, sum-below-next, sum-below-same, IsThere, next_after, Chain, last_of, last_or}
+use Rattle.cn_yard.proofs.There.{standing-none, standing-only, there}
+use Rattle.cn_yard.proofs.Chains.{last-in, walk-chain}
+
+-- A yard without lines: nobody stands there, and no record is free.
+
+-- what the type keeps, opened and closed
+pub opened : (y : Inside) → IsYard y → IsBare y ⊎ ((order : ℕ → List ℕ) × Keeps y order)
+unfolding IsYard
+opened y is = is
+
+pub closed : {y : Inside} {order : ℕ → List ℕ} → Keeps y order → IsYard y
+unfolding IsYard
+closed {y} {order} k = inr (order, k)
+
+pub closed-bare : {y : Inside} → IsBare y → IsYard y
+unfolding IsYard
+closed-bare {y} b = inl b
+
+-- there are as many lists as wires, and nobody stands beyond
+pub wires-are : (y : Inside) → length (lists_of y) ≡ y.wires
+wires-are y = length-map (range_with_len 0 y.wires) (λ u. with_clients (client_of y.records.items) (walked y.records.items y.lines.items u))
+    ∙ length-range_with_len 0 y.wires
+
+pub on-beyond : (y : Inside) (u : ℕ) → y.wires ≤ u → on (lists_of y) u ≡ []
+on-beyond y u h = get_or_past (lists_of y) u [] (omega (arith, wires-are y))
+
+abbrev yard-with : Lists → ℕ → Yard
+yard-with lists spare = record { lists = lists; spare = spare }
+
+-- a yard as callers see it, of its parts
+pub both : {a b : Lists} {m n : ℕ} → a ≡ b → m ≡ n → yard-with a m ≡ yard-with b n
+both e f = rw (e, f) refl
+
+-- no list has a token, and none is free: an empty yard
+pub empty-of : (y : Inside) → ((u : ℕ) → u < y.wires → on (lists_of y) u ≡ []) → count_of y.lines.items y.wires ≡ 0
+    → yard_of y ≡ empty y.wires
+empty-of y none free =
+    both (ext_get_or [] (lists_of y) (replicate y.wires []) (wires-are y ∙ sym (length-replicate y.wires []))
+    (λ u h. let w = wires-are y in none u (omega arith) ∙ sym (get_or-replicate y.wires u [] [] (omega arith)))) free
+
+module _ (y : Inside) (b : IsBare y) where
+  pub bare-count : (u : ℕ) → count_of y.lines.items u ≡ 0
+  bare-count u = ap (λ (ls : List Line). count_of ls u) b.lines
+
+  pub bare-on : (u : ℕ) → on (lists_of y) u ≡ []
+  unfolding walk
+  bare-on u = elim (cases_lt u y.wires) [
+    | inr l ↦ on-beyond y u l
+    | inl l ↦ get_or-map-range_with_len (λ w. with_clients (client_of y.records.items) (walked y.records.items y.lines.items w)) 0 y.wires u
+        u [] l (omega arith) ∙ nobody u
+  ]
+    where
+      nobody : (u : ℕ) → with_clients (client_of y.records.items) (walked y.records.items y.lines.items u) ≡ []
+      nobody u = rw b.lines refl
+
+  pub bare-standing : (t : ℕ) → standing (lists_of y) t ≡ None
+  bare-standing t = standing-none (length (lists_of y)) (lists_of y) t (λ u h. rw (bare-on u) refl)
+
+  pub bare-stands : (t : ℕ) → IsSome (standing (lists_of y) t) → ⊥
+  bare-stands t stands = let none = bare-standing t in let some = rw none at stands in cc
+
+  pub bare-tokens : tokens_in (lists_of y) ≡ 0
+  bare-tokens = sum-below-zero (length (lists_of y)) (λ u. length (on (lists_of y) u)) (λ u. ap length (bare-on u))
+
+  pub bare-times : (t : ℕ) → times_in (lists_of y) t ≡ 0
+  bare-times t = sum-below-zero (length (lists_of y)) (λ u. count_by (λ e. nat_eq t e.0) (on (lists_of y) u))
+      (λ u. ap (λ es. count_by (λ e. nat_eq t e.0) es) (bare-on u))
+
+  pub bare-records : length y.records.items ≡ 0
+  bare-records = ap length b.records
+
+  pub bare-empty : yard_of y ≡ empty y.wires
+  bare-empty = empty-of y (λ u h. bare-on u) (bare-count y.wires)
+
+-- a yard with a line, or a token, has its lines
+pub kept-some : (y : Inside) → IsYard y → 0 < length y.lines.items → (order : ℕ → List ℕ) × Keeps y order
+kept-some y is some = elim (opened y is) [
+  | inl b ↦ absurd (omega (arith, some, ap length b.lines))
+  | inr k ↦ k
+]
+
+pub kept-live : (y : Inside) (t : ℕ) → IsYard y → IsSome (standing (lists_of y) t) → (order : ℕ → List ℕ) × Keeps y order
+kept-live y t is stands = elim (opened y is) [
+  | inl b ↦ absurd (bare-stands y b t stands)
+  | inr k ↦ k
+]
 
 -- ---- numbers with their clients
 
@@ -43,13 +125,13 @@ clients-same client client' (x ∷ xs) same =
     rw (here, rest) refl
 
 -- the client of a number at the end
-clients-last : (client : ℕ → ℕ) (t to u : ℕ) → with_clients client (last_of t to u) ≡ last_on t (client t) to u
+pub clients-last : (client : ℕ → ℕ) (t to u : ℕ) → with_clients client (last_of t to u) ≡ last_on t (client t) to u
 clients-last client t to u = grind (arith, nat_tests)
 
 -- the token after one
 pub after-clients : (n p : ℕ → ℕ) (client : ℕ → ℕ) (t d : ℕ) (xs : List ℕ) → Chain n p xs → times t xs ≡ 1
     → next_after t (with_clients client xs) ≡ cond (eqb (last_or d xs) t) None (Some (n t))
-unfolding next_after last_or
+unfolding next_after last_or Chain
 after-clients n p client t d [] c one = absurd (omega (arith, times-nil t))
 after-clients n p client t d (x ∷ []) c one = grind (arith, nat_tests, times-cons t x [], times-nil t)
 after-clients n p client t d (x ∷ y ∷ ys) c one =
@@ -58,8 +140,8 @@ after-clients n p client t d (x ∷ y ∷ ys) c one =
       nat_tests,
       times-cons t x (y ∷ ys),
       last-in y ys,
-      (chain-tied n p x y ys c).0,
-      after-clients n p client t x (y ∷ ys) (chain-rest n p x (y ∷ ys) c),
+      c.0.0,
+      after-clients n p client t x (y ∷ ys) c.1,
     )
 
 -- ---- sums
@@ -132,11 +214,11 @@ module _ (y : Inside) (order : ℕ → List ℕ) (k : Keeps y order) where
       (rw (on-wire w on_wire) (lookup-in (client_of y.records.items) t (order w) (omega arith)))
       (λ u o. lookup-none t u (λ l. let once = k.lined.links.linked.once t u (omega arith) in grind (arith, nat_tests)))
 
-  pub standing-free : (t : ℕ) → y.wires ≤ wire_of y.records.items t → standing (lists_of y) t ≡ None
-  standing-free t free =
-      let as_many = k.wires in
-      standing-none (length (lists_of y)) (lists_of y) t
-      (λ u h. lookup-none t u (λ l. let once = k.lined.links.linked.once t u (omega arith) in grind (arith, nat_tests)))
+  pub absent-free : (t : ℕ) → y.wires ≤ wire_of y.records.items t → (u : ℕ)
+      → lookup (nat_eq t) (on (lists_of y) u) ≡ None
+  absent-free t free u =
+      let w = k.wires in
+      lookup-none t u (λ l. let once = k.lined.links.linked.once t u (omega arith) in grind (arith, nat_tests))
 
   pub standing-past : (t : ℕ) → length y.records.items ≤ t → standing (lists_of y) t ≡ None
   standing-past t past =
@@ -150,7 +232,8 @@ module _ (y : Inside) (order : ℕ → List ℕ) (k : Keeps y order) where
       elim (cases_lt t (length y.records.items)) [
         | inr l ↦ absurd (let none = standing-past t l in let some = rw none at stands in cc)
         | inl l ↦ elim (cases_lt (wire_of y.records.items t) y.wires) [
-          | inr f ↦ absurd (let none = standing-free t f in let some = rw none at stands in cc)
+          | inr f ↦ absurd (let none = standing-none (length (lists_of y)) (lists_of y) t (λ u h. absent-free t f u) in
+              let some = rw none at stands in cc)
           | inl f ↦ (l, f)
         ]
       ]
@@ -161,30 +244,3 @@ module _ (y : Inside) (order : ℕ → List ℕ) (k : Keeps y order) where
   there-live t stands =
       let (h, on_wire) = live t stands in
       there (lists_of y) t (client_of y.records.items t) (wire_of y.records.items t) (times-most t) (standing-live t h on_wire)
-
--- ---- a yard after a move
-
-pub on-moved : (y z : Inside) (order : ℕ → List ℕ) (t to : ℕ) → Keeps y order → Keeps z (moved order t to) → z.wires ≡ y.wires
-    → ((n : ℕ) → n < length y.records.items → n ≢ t → client_of z.records.items n ≡ client_of y.records.items n)
-    → (u : ℕ) → u < y.wires → on (lists_of z) u ≡ without t (on (lists_of y) u) ++ last_on t (client_of z.records.items t) to u
-on-moved y z order t to k k' wires same u h =
-    let as_many = k.wires in
-    let client = client_of y.records.items in
-    let client' = client_of z.records.items in
-    let here = on-wire z (moved order t to) k' u (omega (arith, wires)) in
-    let parts : with_clients client' (but t (order u) ++ last_of t to u)
-    ≡ with_clients client' (but t (order u)) ++ with_clients client' (last_of t to u) =
-    map-append (λ n. (n, client' n)) (but t (order u)) (last_of t to u) in
-    let kept : with_clients client' (but t (order u)) ≡ without t (on (lists_of y) u) =
-    clients-same client client' (but t (order u)) still
-    ∙ sym (without-clients client t (order u))
-    ∙ ap (λ es. without t es) (sym (on-wire y order k u h)) in
-    rw (here, parts, kept, clients-last client' t to u) refl
-  where
-    -- those that stay on the line have their clients
-    still : (n : ℕ) → 1 ≤ times n (but t (order u)) → client_of z.records.items n ≡ client_of y.records.items n
-    still n inside =
-        let as_many = k.wires in
-        let left = times-but n t (order u) in
-        let other : n ≢ t = λ e. absurd (grind (arith, nat_tests)) in
-        same n (k.lined.links.linked.below n u (omega arith) (grind (arith, nat_tests))) other

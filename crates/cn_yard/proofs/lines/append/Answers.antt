@@ -1,5 +1,5 @@
 use Rattle.cn_yard.proofs.Common.{arith, ap, set}
-use Rattle.cn_yard.proofs.Appended.{Appends, last-below, on-kept, on-linked}
+use Rattle.cn_yard.proofs.AllLines.{Appends, last-below, on-kept, on-linked}
 use Rattle.cn_yard.proofs.lines.append.Goals.{then-line-gt0, else-line-gt0}
 use Rattle.cn_yard.proofs.lines.append.Goals as goal
 
@@ -26,11 +26,8 @@ link-requires-clause-from c =
     last-below c.args.records.now c.args.lines.now order l c.args.wire c.requires.wire (omega (arith, some))
 
 pub returns-clause-kept : goal.returns-clause-kept
-returns-clause-kept c = on-kept c.args.records.now c.args.lines.now c.if-line-gt0.records c.set_wire.new.records
-    (set c.args.lines.now c.args.wire c.longer.result) c.args.number c.args.wire c.requires.wire (appends c)
+returns-clause-kept c = on-kept c.requires.wire (appends c)
 
 pub returns-clause-linked : goal.returns-clause-linked
 returns-clause-linked c order l off =
-    on-linked c.args.records.now c.args.lines.now c.if-line-gt0.records c.set_wire.new.records
-    (set c.args.lines.now c.args.wire c.longer.result) order c.args.number c.args.wire l off c.requires.number c.requires.wire
-    (appends c) (returns-clause-kept c)
+    on-linked l off c.requires.number c.requires.wire (appends c) (returns-clause-kept c)

@@ -22,7 +22,7 @@ near : (c : goal.After-link-arg-1)
     → (prev_of c.args.records.now c.args.number < length c.args.records.now)
     × (next_of c.args.records.now c.args.number < length c.args.records.now)
 near c = let (order, l, one) = c.requires.linked in
-    near-below c.args.records.now c.args.lines.now order l c.args.number c.requires.wire one (sym c.is_end.ensures ∙ c.if-not-is_end.true)
+    near-below l c.args.number c.requires.wire one (sym c.is_end.ensures ∙ c.if-not-is_end.true)
 
 pub link-requires-clause-from : goal.link-requires-clause-from
 link-requires-clause-from c = (near c).0
@@ -33,19 +33,13 @@ link-requires-clause-to c = (near c).1
 pub shorter-requires : goal.shorter-requires
 shorter-requires c =
     let (order, l, one) = c.requires.linked in
-    some-there c.args.records.now c.args.lines.now order l c.args.number (wire_of c.args.records.now c.args.number) c.requires.wire
-    (omega (arith, one))
+    some-there l c.args.number _ c.requires.wire (omega (arith, one))
 
 pub returns-clause-kept : goal.returns-clause-kept
 returns-clause-kept c =
     let (order, l, one) = c.requires.linked in
-    off-kept c.args.records.now c.args.lines.now c.if-not-is_end.records
-    (set c.args.lines.now (wire_of c.args.records.now c.args.number) c.shorter.result) c.args.number c.requires.wire
-    (some-there c.args.records.now c.args.lines.now order l c.args.number (wire_of c.args.records.now c.args.number) c.requires.wire
-    (omega (arith, one))) (unlinks c)
+    let some = some-there l c.args.number _ c.requires.wire (omega (arith, one)) in
+    off-kept c.requires.wire some (unlinks c)
 
 pub returns-clause-linked : goal.returns-clause-linked
-returns-clause-linked c order l one =
-    off-linked c.args.records.now c.args.lines.now c.if-not-is_end.records
-    (set c.args.lines.now (wire_of c.args.records.now c.args.number) c.shorter.result) order c.args.number l c.requires.wire one
-    (unlinks c) (returns-clause-kept c)
+returns-clause-linked c order l one = off-linked l c.requires.wire one (unlinks c) (returns-clause-kept c)

@@ -1,4 +1,4 @@
-use Rattle.cn_yard.proofs.Common.{◌≡◌, inl, inr, true, false, eqb, arith, w64, cases_eq, nat_tests, bit_at_clear_other, bit_at_clear_same, bit_at_set_other, bit_at_set_same}
+use Rattle.cn_yard.proofs.Common.{arith, w64, nat_tests, bit_at_clear_other, bit_at_clear_same, bit_at_set_other, bit_at_set_same}
 use Rattle.cn_yard.proofs.marks.with_bit.Goals as goal
 
 pub returns-then-on : goal.returns-then-on

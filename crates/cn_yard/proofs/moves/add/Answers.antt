@@ -5,14 +5,13 @@ use Rattle.cn_yard.proofs.moves.add.Goals as goal
 pub append-requires-clause-count : goal.append-requires-clause-count
 append-requires-clause-count c =
     let (order, lined) = c.requires.lined in
-    let most = count-le c.args.records.now.items c.args.lines.now order lined.links c.args.wire c.requires.wire in
+    let most = count-le lined.links c.args.wire c.requires.wire in
     omega (arith, c.requires.few)
 
 pub append-requires-clause-linked : goal.append-requires-clause-linked
 append-requires-clause-linked c =
     let (order, lined) = c.requires.lined in
-    let t = new-one c.args.records.now.items c.args.lines.now order (record { prev = 0; next = 0; wire = c.args.wire; client = 0 })
-    lined.links in
+    let t = new-one (record { prev = 0; next = 0; wire = c.args.wire; client = 0 }) lined.links in
     let number : c.len-number.result ≡ length c.args.records.now.items = c.len-number.ensures ∙ search rules in
     rw (c.deref_mut.ensures.value, c.push_reserved.ensures.items, number) (order, t.linked, t.off)
 
@@ -24,8 +23,7 @@ mark-requires c =
 pub returns-clause-kept : goal.returns-clause-kept
 returns-clause-kept c =
     rw (take_at c.append.new.records _ c.push_reserved.new.self.len (c.append.ensures.kept.len ∙ c.deref_mut.ensures.len))
-    (added-kept c.args.records.now.items c.args.lines.now c.deref_mut.result.now c.append.new.records c.append.new.lines
-    (record { prev = 0; next = 0; wire = c.args.wire; client = 0 }) c.len-number.result c.args.wire
+    (added-kept (record { prev = 0; next = 0; wire = c.args.wire; client = 0 })
     (c.deref_mut.ensures.value ∙ c.push_reserved.ensures.items) c.append.ensures.kept)
 
 pub returns-clause-lined : goal.returns-clause-lined
@@ -37,9 +35,8 @@ returns-clause-lined c order lined =
     record {
       links =
           rw (take_at c.append.new.records _ c.push_reserved.new.self.len (c.append.ensures.kept.len ∙ c.deref_mut.ensures.len))
-          (added c.args.records.now.items c.args.lines.now c.deref_mut.result.now c.append.new.records c.append.new.lines order
-          (record { prev = 0; next = 0; wire = c.args.wire; client = 0 }) c.len-number.result c.args.wire
-          lined.links (c.deref_mut.ensures.value ∙ c.push_reserved.ensures.items) number c.requires.wire c.append.ensures.kept
+          (added (record { prev = 0; next = 0; wire = c.args.wire; client = 0 }) lined.links
+          (c.deref_mut.ensures.value ∙ c.push_reserved.ensures.items) number c.requires.wire c.append.ensures.kept
           (c.append.ensures.linked order));
       few = omega arith;
       marks =

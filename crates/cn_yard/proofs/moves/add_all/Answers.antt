@@ -33,8 +33,7 @@ loop-preserved c =
             c.add.ensures.lined order' lined',
             same-put c.args.wire (length c.loop.records.items) order order' same,
           );
-      kept = more-add c.args.records.now.items c.args.lines.now c.loop.records.items c.loop.lines c.add.new.records.items c.add.new.lines
-          c.args.wire inv.kept c.add.ensures.kept;
+      kept = more-add inv.kept c.add.ensures.kept;
       count = grind (arith, nat_tests);
       words = c.add.ensures.words ∙ inv.words;
       capacity = c.add.ensures.capacity ∙ inv.capacity;

@@ -8,8 +8,7 @@ off : (c : After-unlink) (order : ℕ → List ℕ) → IsLined c.args.records.n
     → ButOne c.unlink.new.records c.unlink.new.lines (λ u. but c.args.number (order u)) c.args.number
 off c order lined =
     let is = lined.links in
-    but-one c.args.records.now c.args.lines.now c.unlink.new.records c.unlink.new.lines order c.args.number is c.requires.number
-    c.unlink.ensures.kept
+    but-one is c.requires.number c.unlink.ensures.kept
     (c.unlink.ensures.linked order is.linked (is.there c.args.number c.requires.number))
 
 pub unlink-requires-clause-wire : goal.unlink-requires-clause-wire
@@ -23,7 +22,7 @@ unlink-requires-clause-linked c =
 pub append-requires-clause-count : goal.append-requires-clause-count
 append-requires-clause-count c =
     let (order, lined) = c.requires.lined in
-    let most = count-le c.args.records.now c.args.lines.now order lined.links c.args.wire c.requires.wire in
+    let most = count-le lined.links c.args.wire c.requires.wire in
     omega (arith, c.unlink.ensures.kept.count c.args.wire, lined.few)
 
 pub append-requires-clause-linked : goal.append-requires-clause-linked
@@ -56,9 +55,7 @@ returns-clause-lined c order lined =
     let words = c.mark-2.ensures.length in let words' = c.mark.ensures.length in
     record {
       links =
-          but-none c.unlink.new.records c.unlink.new.lines c.append.new.records c.append.new.lines (λ u. but c.args.number (order u))
-          c.args.number c.args.wire but-it
-          (rw c.unlink.ensures.kept.as_many c.requires.wire) c.append.ensures.kept
+          but-none but-it (rw c.unlink.ensures.kept.as_many c.requires.wire) c.append.ensures.kept
           (c.append.ensures.linked (λ u. but c.args.number (order u)) but-it.linked but-it.off);
       few = omega arith;
       marks =

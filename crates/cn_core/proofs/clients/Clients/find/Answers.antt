@@ -13,7 +13,7 @@ found : (c : goal.In-Walking) → standing_of_client c.self.inside.names c.args.
 found c = sym c.standing.ensures ∙ c.in_ok-token.was ∙ ap Some c.in-Walking.is
 
 pub wire_of-requires : goal.wire_of-requires
-wire_of-requires c = live-found c.self.inside.yard c.self.inside.names c.args.client c.in-Walking.token c.self.invariant (found c)
+wire_of-requires c = live-found c.args.client c.self.invariant (found c)
 
 pub returns-in-Walking-clause-position : goal.returns-in-Walking-clause-position
 returns-in-Walking-clause-position c =

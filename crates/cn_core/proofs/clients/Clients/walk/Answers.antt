@@ -3,19 +3,16 @@ use Rattle.cn_core.proofs.clients.Clients.walk.Goals as goal
 
 pub move_to-requires-clause-live : goal.move_to-requires-clause-live
 move_to-requires-clause-live c =
-    let (client, found) = rw (← c.self.view_is) at c.requires.walking in
-    live-found c.self.inside.yard c.self.inside.names client c.args.token c.self.invariant found
+    let (client, found) = rw (← c.self.view_is) at c.requires.walking in live-found client c.self.invariant found
 
 pub invariant_of-self : goal.invariant_of-self
 invariant_of-self c =
     let (client, found) = rw (← c.self.view_is) at c.requires.walking in
-    (go c.self.inside.yard c.move_to.new.self c.self.inside.names client c.args.token c.args.wire c.move_to.ensures c.self.invariant
-    found).1
+    (go client c.move_to.ensures c.self.invariant found).1
 
 pub returns-clause-walked : goal.returns-clause-walked
 returns-clause-walked c client found =
-    rw (← c.self.view_is) (go c.self.inside.yard c.move_to.new.self c.self.inside.names client c.args.token c.args.wire c.move_to.ensures
-    c.self.invariant (rw (← c.self.view_is) at found)).0
+    rw (← c.self.view_is) (go client c.move_to.ensures c.self.invariant (rw (← c.self.view_is) at found)).0
 
 pub returns-clause-wires : goal.returns-clause-wires
 returns-clause-wires c =

@@ -1,5 +1,5 @@
 use Rattle.cn_core.proofs.Common.{◌≡◌, ◌+◌, ◌∙◌, [], ◌∷◌, length, refl, subst, sym, IsCore, State, after_carry, inside_in, positions, state_of, Agrees}
-use Rattle.cn_core.proofs.CarryLemmas.{IsCore-after_carry, visits-after-carry}
+use Rattle.cn_core.proofs.TightLemmas.{IsCore-after_carry, visits-after-carry}
 use Rattle.cn_core.proofs.HistoryLemmas.{Agrees-after_carry}
 use Rattle.cn_core.proofs.core_state.Core.carry.Goals as goal
 

@@ -1,5 +1,4 @@
-use Rattle.cn_core.proofs.Common.{rules, refl, sym, ◌≡◌, ◌+◌, ◌-◌, ◌*◌, ◌∙◌, Some, slice_index, Balancer, Exit, On, State, Walking, position_in, position_past, positions, state_after_step, with_position, standing_of_client, state_of}
-use Rattle.cn_ledger.specs.declared.moved.Moved.TheVariants.{On as Passed, Out}
+use Rattle.cn_core.proofs.Common.{rules, refl, sym, ◌≡◌, ◌∙◌, Some, slice_index, Balancer, Exit, On, State, Walking, position_in, position_past, positions, state_after_step, with_position, standing_of_client, state_of}
 use Rattle.cn_core.proofs.HistoryLemmas.{history-step}
 use Rattle.cn_core.proofs.TightLemmas.{room-past}
 use Rattle.cn_core.proofs.StateLemmas.{name-later}
@@ -74,17 +73,10 @@ returns-in-Exit-clause-history c = rw (← c.self.view_is)
 
 pub returns-in-Balancer-clause-ledger : goal.returns-in-Balancer-clause-ledger
 returns-in-Balancer-clause-ledger c =
-    let old : State = state_of c.self.inside in
-    let new : State = record old { passes = c.count_one-number.new.counts.items; clients = positions c.walk.new.self } in
-    rw (← c.self.view_is)
-    (ledger-step old c.args.client (Passed c.in-Balancer.balancer c.count_one-number.result
-    (c.entries.result + 2 * c.in-Balancer.balancer + c.output_of.result)) new
-    c.self.invariant.core.state (rw (← c.self.view_is) at (returns-in-Balancer-clause-event c)))
+    let event = rw (← c.self.view_is) at (returns-in-Balancer-clause-event c) in
+    rw (← c.self.view_is) (ledger-step _ c.args.client _ _ c.self.invariant.core.state event)
 
 pub returns-in-Exit-clause-ledger : goal.returns-in-Exit-clause-ledger
 returns-in-Exit-clause-ledger c =
-    let old : State = state_of c.self.inside in
-    let new : State = record old { visits = c.take-visit.new.self; clients = positions c.settle.new.self } in
-    rw (← c.self.view_is)
-    (ledger-step old c.args.client (Out c.in-Exit.exit c.take-visit.result.visit (c.take-visit.result.name - c.self.inside.base)) new
-    c.self.invariant.core.state (rw (← c.self.view_is) at (returns-in-Exit-clause-event c)))
+    let event = rw (← c.self.view_is) at (returns-in-Exit-clause-event c) in
+    rw (← c.self.view_is) (ledger-step _ c.args.client _ _ c.self.invariant.core.state event)

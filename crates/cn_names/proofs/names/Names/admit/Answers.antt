@@ -1,9 +1,14 @@
-use Rattle.cn_names.proofs.Common.{◌≡◌, nat_eq, None, Some, ◌∙◌, arith, get, insert_entry, Walking}
+use Rattle.cn_names.proofs.Common.{[], ◌∷◌, Bool, List, cases_Bool, lookup, ◌≡◌, nat_eq, None, Some, ◌∙◌, arith, get, insert_entry, Walking, Bool, List, lookup}
 use Rattle.std.proofs.lemmas.Grind.{common_steps}
 use Rattle.indexmap.proofs.CallerLemmas.{insert_entry-new}
-use Rattle.cn_names.proofs.Entries.{insert-entry-same}
 use Rattle.cn_names.proofs.names.Names.admit.Goals as goal
 use Rattle.cn_names.proofs.names.Names.admit.Goals.{in-Ok-Vacant, in-Ok-Occupied, in-Err}
+
+-- a key that takes the value that it has
+insert-entry-same : {K V : Type 0} (eq : K → K → Bool) (es : List (K × V)) (k : K) (v : V) → lookup (eq k) es ≡ Some v
+    → insert_entry eq es k v ≡ es
+insert-entry-same eq [] k v found = cc
+insert-entry-same eq ((j, w) ∷ es) k v found = grind (arith, cases_Bool (eq k j), insert-entry-same eq es k v)
 
 pub invariant_of-self : goal.invariant_of-self
 invariant_of-self c =

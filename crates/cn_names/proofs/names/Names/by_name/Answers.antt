@@ -1,6 +1,6 @@
-use Rattle.cn_names.proofs.Common.{◌∙◌, sym, refl, true≢false, ℕ, length, ap, length_permutation, grants_in}
+use Rattle.cn_names.proofs.Common.{◌∙◌, sym, refl, ℕ, length, ap, length_permutation, grants_in}
 use Rattle.std.proofs.lemmas.List.{length-map}
-use Rattle.cn_names.proofs.Walking.{walking-from-any, any-from-walking, length-grants-in}
+use Rattle.cn_names.proofs.Walking.{walking-from-any, none-walking, length-grants-in}
 use Rattle.cn_names.proofs.names.Names.by_name.Goals as goal
 
 pub returns-then-is_any_walking-clause-walking : goal.returns-then-is_any_walking-clause-walking
@@ -17,22 +17,14 @@ returns-in-Ok-clause-everyone c =
 
 pub returns-in-Ok-clause-walking : goal.returns-in-Ok-clause-walking
 returns-in-Ok-clause-walking c =
-    let e = c.is_any_walking.ensures in (
-      λ said. absurd (cc),
-      λ someone. absurd (true≢false
-          (sym (any-from-walking c.args.self.now someone.0 someone.1.0 someone.1.1) ∙ sym e.value ∙ c.if-is_any_walking.false)),
-    )
+    let none = sym c.is_any_walking.ensures.value ∙ c.if-is_any_walking.false in
+    (λ said. absurd (cc), λ someone. absurd (none-walking c.args.self.now none someone.0 someone.1))
 
 pub returns-in-Ok-clause-settled : goal.returns-in-Ok-clause-settled
 returns-in-Ok-clause-settled c =
-    let e = c.is_any_walking.ensures in
-    λ client walking. true≢false (sym (any-from-walking c.args.self.now client walking.0 walking.1) ∙ sym e.value
-    ∙ c.if-is_any_walking.false)
+    none-walking c.args.self.now (sym c.is_any_walking.ensures.value ∙ c.if-is_any_walking.false)
 
 pub returns-in-Err-clause-walking : goal.returns-in-Err-clause-walking
 returns-in-Err-clause-walking c =
-    let e = c.is_any_walking.ensures in (
-      λ said. absurd (cc),
-      λ someone. absurd (true≢false
-          (sym (any-from-walking c.args.self.now someone.0 someone.1.0 someone.1.1) ∙ sym e.value ∙ c.if-is_any_walking.false)),
-    )
+    let none = sym c.is_any_walking.ensures.value ∙ c.if-is_any_walking.false in
+    (λ said. absurd (cc), λ someone. absurd (none-walking c.args.self.now none someone.0 someone.1))

@@ -1,4 +1,4 @@
-use Rattle.cn_names.proofs.Once.{once}
+use Rattle.cn_names.proofs.Walking.{once}
 use Rattle.cn_names.proofs.names.Names.len.Goals as goal
 
 pub returns-clause-once : goal.returns-clause-once

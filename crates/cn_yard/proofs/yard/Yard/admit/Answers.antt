@@ -1,6 +1,6 @@
-use Rattle.cn_yard.proofs.Common.{◌≡◌, ◌∙◌, ◌<◌, ℕ, List, length, refl, ap, arith, max, Inside, Keeps, Yard, count_of, lists_of, moved, wire_of}
+use Rattle.cn_yard.proofs.Common.{◌≡◌, ◌∙◌, ◌<◌, ℕ, List, length, refl, ap, arith, max, Inside, Keeps, Yard, count_of, lists_of, wire_of}
 use Rattle.cn_yard.proofs.Bodies.{Relinked, Renamed, admits-renamed, after, free-read, keeps-relinked, keeps-renamed, relinked-by, renamed-by, with_records}
-use Rattle.cn_yard.proofs.Bare.{closed, wires-are}
+use Rattle.cn_yard.proofs.Wires.{closed, wires-are}
 use Rattle.cn_yard.proofs.Readers.{kept-count}
 use Rattle.cn_yard.proofs.yard.Yard.admit.Goals.{After-index, After-relink, After-set_client}
 use Rattle.cn_yard.proofs.yard.Yard.admit.Goals as goal
@@ -50,10 +50,8 @@ moved-yard c = after c.self.inside c.relink.new.records c.relink.new.lines c.rel
 
 relinked : (c : After-relink) → Relinked c.self.inside (moved-yard c) c.index.result.now.last c.args.wire
 relinked c =
-    relinked-by c.self.inside c.deref_mut.result.now c.deref_mut-2.result.now c.deref_mut-3.result.now c.relink.new.records
-    c.relink.new.lines c.relink.new.marks c.index.result.now.last c.index.result.now.last c.args.wire refl
-    c.deref_mut.ensures.value c.deref_mut-2.ensures.value c.deref_mut-3.ensures.value c.deref_mut.ensures.len c.deref_mut-2.ensures.len
-    c.deref_mut-3.ensures.len
+    relinked-by c.self.inside c.relink.new.marks refl c.deref_mut.ensures.value c.deref_mut-2.ensures.value
+    c.deref_mut-3.ensures.value c.deref_mut.ensures.len c.deref_mut-2.ensures.len c.deref_mut-3.ensures.len
     c.relink.ensures.kept c.relink.ensures.lined c.relink.ensures.words
 
 pub set_client-requires : goal.set_client-requires
@@ -71,28 +69,19 @@ named-yard c = with_records (after c.self.inside c.relink.new.records c.relink.n
 renamed : (c : After-set_client) → Renamed (after c.self.inside c.relink.new.records c.relink.new.lines c.relink.new.marks) (named-yard c)
     c.index.result.now.last c.args.client
 renamed c =
-    renamed-by (after c.self.inside c.relink.new.records c.relink.new.lines c.relink.new.marks) c.deref_mut-4.result.now
-    c.set_client.new.records c.index.result.now.last c.args.client
+    renamed-by (after c.self.inside c.relink.new.records c.relink.new.lines c.relink.new.marks)
     c.deref_mut-4.ensures.value c.deref_mut-4.ensures.len c.set_client.ensures
 
 pub invariant_of-self : goal.invariant_of-self
 invariant_of-self c =
-    let (order, k) = kept (goal.at.invariant_of-self c).After-index in
     let here = goal.at.invariant_of-self c in
-    let m = moved-yard here.After-relink in
-    let z = named-yard here.After-set_client in
-    let t = c.index.result.now.last in
-    let keeps = keeps-relinked c.self.inside m order t c.args.wire k (relinked here.After-relink) in
-    closed z (moved order t c.args.wire) (keeps-renamed m z (moved order t c.args.wire) t c.args.client keeps
-    (renamed here.After-set_client))
+    let (order, k) = kept here.After-index in
+    closed (keeps-renamed (keeps-relinked k (relinked here.After-relink)) (renamed here.After-set_client))
 
 pub returns-clause-ok : goal.returns-clause-ok
 returns-clause-ok c =
-    let (order, k) = kept (goal.at.returns-clause-ok c).After-index in
     let here = goal.at.returns-clause-ok c in
-    let m = moved-yard here.After-relink in
-    let z = named-yard here.After-set_client in
+    let (order, k) = kept here.After-index in
     rw c.of.ensures
-    (admits-renamed c.args.self.now c.self.inside m z order c.index.result.now.last c.args.wire c.args.client k (lists here.After-index)
-    (spare here.After-index)
-    (relinked here.After-relink) (renamed here.After-set_client) (free here.After-index).1 (within here.After-index))
+    (admits-renamed k (lists here.After-index) (spare here.After-index) (relinked here.After-relink)
+    (renamed here.After-set_client) (free here.After-index).1 (within here.After-index))

@@ -1,5 +1,5 @@
 use Rattle.cn_yard.proofs.Common.{◌∙◌, ◌<◌, ap, sym, List, Line, count_of}
-use Rattle.cn_yard.proofs.Bare.{wires-are}
+use Rattle.cn_yard.proofs.Wires.{wires-are}
 use Rattle.cn_yard.proofs.Readers.{count-all}
 use Rattle.cn_yard.proofs.yard.Yard.count.Goals as goal
 

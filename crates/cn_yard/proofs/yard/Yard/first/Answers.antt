@@ -1,5 +1,5 @@
-use Rattle.cn_yard.proofs.Common.{◌≡◌, ◌∙◌, ◌<◌, ℕ, List, [], length, refl, sym, ap, arith, rules, vec_len, false, eqb, Keeps, Line, count_of, lists_of, nat_tests, on, nil_from_length, first_of}
-use Rattle.cn_yard.proofs.Bare.{wires-are}
+use Rattle.cn_yard.proofs.Common.{◌≡◌, ◌∙◌, ◌<◌, ℕ, List, [], sym, ap, arith, Keeps, Line, count_of, lists_of, nat_tests, on, nil_from_length, first_of}
+use Rattle.cn_yard.proofs.Wires.{wires-are}
 use Rattle.cn_yard.proofs.Readers.{count-all, count-read, first-read, kept-count}
 use Rattle.cn_yard.proofs.yard.Yard.first.Goals.{After-count_on}
 use Rattle.cn_yard.proofs.yard.Yard.first.Goals as goal
@@ -19,8 +19,7 @@ index-requires c =
     let here = (goal.at.index-requires c).After-count_on in
     let (order, k) = kept here (omega (arith, c.if-count_on-eq0.false)) in
     let y = c.self.inside in
-    let size : vec_len y.lines ≡ length y.lines.items = search rules in
-    omega (arith, size, k.wires, within here)
+    omega (arith, k.wires, within here)
 
 pub returns-then-count_on-eq0 : goal.returns-then-count_on-eq0
 returns-then-count_on-eq0 c =

@@ -1,28 +1,21 @@
-use Rattle.cn_yard.proofs.Common.{◌≡◌, length, ap, rules, arith, vec_len, Yard, tokens_in}
+use Rattle.cn_yard.proofs.Common.{ap, arith, Yard, tokens_in}
 use Rattle.cn_yard.proofs.Readers.{few-all, tokens-all}
 use Rattle.cn_yard.proofs.yard.Yard.len.Goals as goal
 
 pub overflow_cast-result : goal.overflow_cast-result
-overflow_cast-result c =
-    let counted : vec_len c.self.inside.records ≡ length c.self.inside.records.items = search rules in
-    omega (arith, counted, few-all c.self.inside c.self.invariant, c.len.ensures)
+overflow_cast-result c = let y = c.self.inside in omega (arith, few-all y c.self.invariant, c.len.ensures)
 
 pub overflow_sub-result : goal.overflow_sub-result
 overflow_sub-result c =
     let y = c.self.inside in
-    let counted : vec_len y.records ≡ length y.records.items = search rules in
-    omega (arith, counted, tokens-all y c.self.invariant, c.len.ensures, c.spare.ensures, ap (λ (x : Yard). x.spare) c.self.view_is)
+    omega (arith, tokens-all y c.self.invariant, ap (λ (x : Yard). x.spare) c.self.view_is)
 
 pub returns : goal.returns
 returns c =
     let y = c.self.inside in
-    let counted : vec_len y.records ≡ length y.records.items = search rules in
     omega (
       arith,
-      counted,
       tokens-all y c.self.invariant,
-      c.len.ensures,
-      c.spare.ensures,
       ap (λ (x : Yard). x.spare) c.self.view_is,
       ap (λ (x : Yard). tokens_in x.lists) c.self.view_is,
     )

@@ -1,6 +1,6 @@
-use Rattle.cn_yard.proofs.Common.{◌≡◌, ℕ, ◌/◌, ◌<◌, Bool, false, nat_eq, vec_len, List, [], length, ap, ◌∙◌, arith, rules, sym, subst, Inside, Keeps, Yard, lists_of, nat_tests, on, yard_of, IsYard}
-use Rattle.cn_yard.proofs.Readers.{lowest-read, nobody-all, nobody-read, none-read}
-use Rattle.cn_yard.proofs.Bare.{kept-some, wires-are}
+use Rattle.cn_yard.proofs.Common.{◌≡◌, ℕ, ◌/◌, ◌<◌, Bool, false, nat_eq, vec_len, List, [], length, ap, ◌∙◌, arith, sym, subst, Inside, Keeps, Yard, lists_of, nat_tests, on, yard_of, IsYard}
+use Rattle.cn_yard.proofs.Readers.{lowest-read, nobody-all, none-read}
+use Rattle.cn_yard.proofs.Wires.{kept-some, wires-are}
 use Rattle.cn_yard.proofs.yard.Yard.lowest_from.Goals as goal
 
 -- as the yard's lists say it
@@ -10,17 +10,13 @@ below from y z is none = subst (λ (x : Yard). (u : ℕ) → u < from → on x.l
 
 -- there is a line
 kept : (y : Inside) → IsYard y → (empty : Bool) → empty ≡ nat_eq (vec_len y.lines) 0 → empty ≡ false → (order : ℕ → List ℕ) × Keeps y order
-kept y is empty said not =
-    let counted : vec_len y.lines ≡ length y.lines.items = search rules in
-    kept-some y is (grind (arith, nat_tests))
+kept y is empty said not = kept-some y is (grind (arith, nat_tests, y.lines.ok.0))
 
 pub returns-then-is_empty-clause-none : goal.returns-then-is_empty-clause-none
 returns-then-is_empty-clause-none c e wire =
     let y = c.self.inside in
-    let counted : vec_len y.lines ≡ length y.lines.items = search rules in
-    let said = c.is_empty.ensures in
-    let test = c.if-is_empty.true in
-    rw (← c.self.view_is) (nobody-all y c.self.invariant (grind (arith, nat_tests)) wire)
+    let none : length y.lines.items ≡ 0 = grind (arith, nat_tests, c.if-is_empty.true, y.lines.ok.0) in
+    rw (← c.self.view_is) (nobody-all y c.self.invariant none wire)
 
 pub least_from-requires-clause-length : goal.least_from-requires-clause-length
 least_from-requires-clause-length c = let (order, k) =
@@ -50,6 +46,6 @@ returns-in_default-clause-none c e wire =
 pub returns-in_default-2-clause-none : goal.returns-in_default-2-clause-none
 returns-in_default-2-clause-none c e wire =
     let (order, k) = kept c.self.inside c.self.invariant c.is_empty.result c.is_empty.ensures c.if-is_empty.false in
-    rw (← c.self.view_is) (nobody-read c.self.inside order k c.args.from (c.args.from / 64) (omega arith)
-    (below c.args.from c.self.inside c.args.self.now c.self.view_is c.requires.none) (rw c.deref.ensures.value at c.in_default.ensures)
-    wire)
+    rw (← c.self.view_is) (none-read c.self.inside order k c.args.from (c.args.from / 64) (omega arith)
+    (below c.args.from c.self.inside c.args.self.now c.self.view_is c.requires.none) c.self.inside.wires (omega arith)
+    (λ n from _. (rw c.deref.ensures.value at c.in_default.ensures) n from) wire)

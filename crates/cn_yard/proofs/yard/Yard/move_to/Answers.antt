@@ -1,15 +1,13 @@
-use Rattle.cn_yard.proofs.Common.{◌<◌, arith, moved}
+use Rattle.cn_yard.proofs.Common.{arith}
 use Rattle.cn_yard.proofs.Bodies.{Relinked, after, keeps-relinked, moves-relinked, relinked-by}
-use Rattle.cn_yard.proofs.Bare.{closed, kept-live, wires-are}
-use Rattle.cn_yard.proofs.Wires.{live}
+use Rattle.cn_yard.proofs.Wires.{closed, kept-live, wires-are}
+use Rattle.cn_yard.proofs.Readers.{live-number}
 use Rattle.cn_yard.proofs.yard.Yard.move_to.Goals.{After-relink}
 use Rattle.cn_yard.proofs.yard.Yard.move_to.Goals as goal
 
 pub relink-requires-clause-number : goal.relink-requires-clause-number
-relink-requires-clause-number c =
-    let (order, k) = kept-live c.self.inside c.args.token c.self.invariant (rw (← c.self.view_is) at c.requires.live) in
-    let y = c.self.inside in
-    rw (c.number.ensures, c.deref_mut.ensures.value) (live y order k c.args.token (rw (← c.self.view_is) at c.requires.live)).0
+relink-requires-clause-number c = rw (c.number.ensures, c.deref_mut.ensures.value)
+    (live-number c.self.inside c.self.invariant c.args.token (rw (← c.self.view_is) at c.requires.live))
 
 pub relink-requires-clause-wire : goal.relink-requires-clause-wire
 relink-requires-clause-wire c =
@@ -26,26 +24,18 @@ relink-requires-clause-lined c =
 relinked : (c : After-relink)
     → Relinked c.self.inside (after c.self.inside c.relink.new.records c.relink.new.lines c.relink.new.marks) c.args.token c.args.wire
 relinked c =
-    relinked-by c.self.inside c.deref_mut.result.now c.deref_mut-2.result.now c.deref_mut-3.result.now c.relink.new.records
-    c.relink.new.lines c.relink.new.marks c.number.result c.args.token c.args.wire c.number.ensures
-    c.deref_mut.ensures.value c.deref_mut-2.ensures.value c.deref_mut-3.ensures.value c.deref_mut.ensures.len c.deref_mut-2.ensures.len
-    c.deref_mut-3.ensures.len
+    relinked-by c.self.inside c.relink.new.marks c.number.ensures c.deref_mut.ensures.value c.deref_mut-2.ensures.value
+    c.deref_mut-3.ensures.value c.deref_mut.ensures.len c.deref_mut-2.ensures.len c.deref_mut-3.ensures.len
     c.relink.ensures.kept c.relink.ensures.lined c.relink.ensures.words
 
 pub invariant_of-self : goal.invariant_of-self
 invariant_of-self c =
     let (order, k) = kept-live c.self.inside c.args.token c.self.invariant (rw (← c.self.view_is) at c.requires.live) in
-    let y = c.self.inside in
-    let z = after y c.relink.new.records c.relink.new.lines c.relink.new.marks in
-    closed z (moved order c.args.token c.args.wire)
-    (keeps-relinked y z order c.args.token c.args.wire k (relinked (goal.at.invariant_of-self c).After-relink))
+    closed (keeps-relinked k (relinked (goal.at.invariant_of-self c).After-relink))
 
 pub returns : goal.returns
 returns c from client stands =
     let (order, k) = kept-live c.self.inside c.args.token c.self.invariant (rw (← c.self.view_is) at c.requires.live) in
-    let y = c.self.inside in
-    let z = after y c.relink.new.records c.relink.new.lines c.relink.new.marks in
-    let h : c.args.wire < y.wires = rw (← c.self.view_is, wires-are y) at c.requires.wire in
+    let h = rw (← c.self.view_is, wires-are c.self.inside) at c.requires.wire in
     rw (← c.self.view_is)
-    (moves-relinked y z order c.args.token c.args.wire from client k (relinked (goal.at.returns c).After-relink) h
-    (rw (← c.self.view_is) at stands))
+    (moves-relinked k (relinked (goal.at.returns c).After-relink) h (rw (← c.self.view_is) at stands))

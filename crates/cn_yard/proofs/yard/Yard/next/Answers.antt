@@ -1,21 +1,17 @@
-use Rattle.cn_yard.proofs.Common.{◌≡◌, ◌∙◌, length, refl, sym, arith, rules, vec_len, true, false, eqb, nat_tests}
-use Rattle.cn_yard.proofs.Bare.{kept-live}
-use Rattle.cn_yard.proofs.Wires.{live}
-use Rattle.cn_yard.proofs.Readers.{next-read, wire-read}
+use Rattle.cn_yard.proofs.Common.{arith, nat_tests}
+use Rattle.cn_yard.proofs.Wires.{kept-live}
+use Rattle.cn_yard.proofs.Readers.{live-number, next-read, wire-read}
 use Rattle.cn_yard.proofs.yard.Yard.next.Goals as goal
 
 pub index-record-requires : goal.index-record-requires
 index-record-requires c =
-    let (order, k) = kept-live c.self.inside c.args.token c.self.invariant (rw (← c.self.view_is) at c.requires) in
     let y = c.self.inside in
-    let counted : vec_len y.records ≡ length y.records.items = search rules in
-    rw (c.number.ensures, counted) (live y order k c.args.token (rw (← c.self.view_is) at c.requires)).0
+    omega (arith, c.number.ensures, live-number y c.self.invariant c.args.token (rw (← c.self.view_is) at c.requires))
 
 pub index-requires : goal.index-requires
 index-requires c =
     let (order, k) = kept-live c.self.inside c.args.token c.self.invariant (rw (← c.self.view_is) at c.requires) in
     let y = c.self.inside in
-    let counted : vec_len y.lines ≡ length y.lines.items = search rules in
     let as_many = k.wires in
     let h = wire-read y order k c.args.token c.index-record.result.now (rw (← c.self.view_is) at c.requires)
     (rw c.number.ensures at c.index-record.ensures) in

@@ -1,15 +1,13 @@
-use Rattle.cn_yard.proofs.Common.{◌≡◌, ◌<◌, length, ap, ◌∙◌, arith, rules, vec_len, get_or_read, with_items_is, with_items, Record, client_of, moved, wire_of, no_record}
+use Rattle.cn_yard.proofs.Common.{◌≡◌, ◌<◌, length, ap, ◌∙◌, arith, get_or_read, Record, client_of, wire_of, no_record}
 use Rattle.cn_yard.proofs.Bodies.{Relinked, after, keeps-relinked, relinked-by, releases-relinked}
-use Rattle.cn_yard.proofs.Bare.{closed, kept-live}
-use Rattle.cn_yard.proofs.Wires.{live, there-live}
+use Rattle.cn_yard.proofs.Wires.{closed, kept-live, live, there-live}
+use Rattle.cn_yard.proofs.Readers.{live-number}
 use Rattle.cn_yard.proofs.yard.Yard.release.Goals.{After-relink}
 use Rattle.cn_yard.proofs.yard.Yard.release.Goals as goal
 
 pub relink-requires-clause-number : goal.relink-requires-clause-number
-relink-requires-clause-number c =
-    let (order, k) = kept-live c.self.inside c.args.token c.self.invariant (rw (← c.self.view_is) at c.requires) in
-    rw (c.number-number.ensures, c.deref_mut.ensures.value)
-    (live c.self.inside order k c.args.token (rw (← c.self.view_is) at c.requires)).0
+relink-requires-clause-number c = rw (c.number-number.ensures, c.deref_mut.ensures.value)
+    (live-number c.self.inside c.self.invariant c.args.token (rw (← c.self.view_is) at c.requires))
 
 pub relink-requires-clause-wire : goal.relink-requires-clause-wire
 relink-requires-clause-wire c =
@@ -23,50 +21,39 @@ relink-requires-clause-lined c =
 
 pub index-requires : goal.index-requires
 index-requires c =
-    let (order, k) = kept-live c.self.inside c.args.token c.self.invariant (rw (← c.self.view_is) at c.requires) in
     let y = c.self.inside in
-    let counted : vec_len y.records ≡ length y.records.items = search rules in
-    rw c.number-number.ensures (rw (← counted) at (live y order k c.args.token (rw (← c.self.view_is) at c.requires)).0)
+    let within = live-number y c.self.invariant c.args.token (rw (← c.self.view_is) at c.requires) in
+    omega (arith, c.number-number.ensures)
 
 relinked : (c : After-relink)
     → Relinked c.self.inside (after c.self.inside c.relink.new.records c.relink.new.lines c.relink.new.marks) c.args.token
     c.self.inside.wires
 relinked c =
-    relinked-by c.self.inside c.deref_mut.result.now c.deref_mut-2.result.now c.deref_mut-3.result.now c.relink.new.records
-    c.relink.new.lines c.relink.new.marks c.number-number.result c.args.token c.self.inside.wires c.number-number.ensures
-    c.deref_mut.ensures.value c.deref_mut-2.ensures.value c.deref_mut-3.ensures.value c.deref_mut.ensures.len c.deref_mut-2.ensures.len
-    c.deref_mut-3.ensures.len
-    c.relink.ensures.kept c.relink.ensures.lined c.relink.ensures.words
+    relinked-by c.self.inside c.relink.new.marks c.number-number.ensures c.deref_mut.ensures.value
+    c.deref_mut-2.ensures.value c.deref_mut-3.ensures.value c.deref_mut.ensures.len c.deref_mut-2.ensures.len
+    c.deref_mut-3.ensures.len c.relink.ensures.kept c.relink.ensures.lined c.relink.ensures.words
 
 pub invariant_of-self : goal.invariant_of-self
 invariant_of-self c =
     let (order, k) = kept-live c.self.inside c.args.token c.self.invariant (rw (← c.self.view_is) at c.requires) in
-    let y = c.self.inside in
-    let z = after y c.relink.new.records c.relink.new.lines c.relink.new.marks in
-    let re = relinked (goal.at.invariant_of-self c).After-relink in
-    closed z (moved order c.args.token y.wires) (keeps-relinked y z order c.args.token y.wires k re)
+    closed (keeps-relinked k (relinked (goal.at.invariant_of-self c).After-relink))
 
 pub returns-clause-client : goal.returns-clause-client
 returns-clause-client c =
-    let (order, k) = kept-live c.self.inside c.args.token c.self.invariant (rw (← c.self.view_is) at c.requires) in
-    let y = c.self.inside in
     let stands = rw (← c.self.view_is) at c.requires in
-    let within = (live y order k c.args.token stands).0 in
-    let len : length c.relink.new.records ≡ length y.records.items = c.relink.ensures.kept.len ∙ ap length c.deref_mut.ensures.value in
-    let left : (with_items y.records c.relink.new.records).items ≡ c.relink.new.records =
-    with_items_is y.records c.relink.new.records (c.relink.ensures.kept.len ∙ c.deref_mut.ensures.len) in
-    let h : c.args.token < length c.relink.new.records = omega arith in
-    let r = get_or_read c.relink.new.records c.args.token c.index.result.now h (rw (left, c.number-number.ensures) at c.index.ensures)
-    no_record in
+    let (order, k) = kept-live c.self.inside c.args.token c.self.invariant stands in
+    let y = c.self.inside in
+    let z = after y c.relink.new.records c.relink.new.lines c.relink.new.marks in
+    let re = relinked (goal.at.returns-clause-client c).After-relink in
+    let within : c.args.token < length z.records.items = rw re.move.len (live y order k c.args.token stands).0 in
+    let at = rw c.number-number.ensures at c.index.ensures in
+    let r = get_or_read z.records.items c.args.token c.index.result.now within at no_record in
     let client : c.index.result.now.client ≡ client_of y.records.items c.args.token =
-    ap (λ (x : Record). x.client) r ∙ c.relink.ensures.kept.client c.args.token
-    ∙ ap (λ rs. client_of rs c.args.token) c.deref_mut.ensures.value in
+    ap (λ (x : Record). x.client) r ∙ re.move.client c.args.token in
     (wire_of y.records.items c.args.token, rw (← c.self.view_is, client) (there-live y order k c.args.token stands))
 
 pub returns-clause-released : goal.returns-clause-released
 returns-clause-released c =
-    let (order, k) = kept-live c.self.inside c.args.token c.self.invariant (rw (← c.self.view_is) at c.requires) in
-    let y = c.self.inside in
-    let z = after y c.relink.new.records c.relink.new.lines c.relink.new.marks in
-    let re = relinked (goal.at.returns-clause-released c).After-relink in
-    rw (← c.self.view_is) (releases-relinked y z order c.args.token k re (rw (← c.self.view_is) at c.requires))
+    let stands = rw (← c.self.view_is) at c.requires in
+    let (order, k) = kept-live c.self.inside c.args.token c.self.invariant stands in
+    rw (← c.self.view_is) (releases-relinked k (relinked (goal.at.returns-clause-released c).After-relink) stands)

@@ -1,9 +1,8 @@
 use Rattle.cn_yard.proofs.Common.{◌≡◌, ◌∙◌, ◌+◌, ◌≤◌, ℕ, List, Vec, Global, refl, ap, arith, MOST_TOKENS, Inside, Keeps, Line, Yard, count_of, lists_of, tokens_in, yard_of}
 use Rattle.std.proofs.lemmas.Result.{on_err_weaker}
-use Rattle.cn_yard.proofs.Bare.{closed}
+use Rattle.cn_yard.proofs.Wires.{closed}
 use Rattle.cn_yard.proofs.Bodies.{Filled, after-fill, filled, filled-by, filled-lists, room-for, unfilled}
-use Rattle.cn_yard.proofs.Changes.{tokens-same}
-use Rattle.cn_yard.proofs.NewYard.{is-same, lines-made}
+use Rattle.cn_yard.proofs.Changes.{is-same, lines-made}
 use Rattle.cn_yard.proofs.yard.Yard.reserve.Goals.{After-deref_mut-2, After-fill}
 use Rattle.cn_yard.proofs.yard.Yard.reserve.Goals as goal
 
@@ -73,31 +72,27 @@ after c = after-fill (before c) c.fill.new.records c.fill.new.lines c.fill.new.m
 
 more : (c : After-fill) → Filled (before c) (after c)
 more c =
-    filled-by (before c) c.deref_mut.result.now c.deref_mut-2.result.now c.fill.new.records c.fill.new.lines c.fill.new.marks
-    c.deref_mut.ensures.value c.deref_mut-2.ensures.value c.deref_mut.ensures.len c.deref_mut-2.ensures.len c.fill.ensures.kept
-    c.fill.ensures.lined c.fill.ensures.words
+    filled-by (before c) c.fill.new.marks c.deref_mut.ensures.value c.deref_mut-2.ensures.value c.deref_mut.ensures.len
+    c.deref_mut-2.ensures.len c.fill.ensures.kept c.fill.ensures.lined c.fill.ensures.words
 
 pub invariant_of-self-2 : goal.invariant_of-self-2
 invariant_of-self-2 c =
     let here = goal.at.invariant_of-self-2 c in
     let ((order, k), view) = made here.After-deref_mut-2 in
-    let (order', keeps, same) = filled (before here.After-fill) (after here.After-fill) order k (more here.After-fill) in
-    closed (after here.After-fill) order' keeps
+    let (order', keeps, same) = filled k (more here.After-fill) in
+    closed keeps
 
 pub returns-clause-lists : goal.returns-clause-lists
 returns-clause-lists c =
     let here = goal.at.returns-clause-lists c in
     let ((order, k), view) = made here.After-deref_mut-2 in
-    filled-lists (before here.After-fill) (after here.After-fill) order k (more here.After-fill)
-    ∙ ap (λ (v : Yard). v.lists) (view ∙ c.self.view_is)
+    filled-lists k (more here.After-fill) ∙ ap (λ (v : Yard). v.lists) (view ∙ c.self.view_is)
 
 pub returns-clause-tokens : goal.returns-clause-tokens
 returns-clause-tokens c =
     let here = goal.at.returns-clause-tokens c in
     let ((order, k), view) = made here.After-deref_mut-2 in
-    tokens-same (lists_of (before here.After-fill)) (lists_of (after here.After-fill))
-    (filled-lists (before here.After-fill) (after here.After-fill) order k (more here.After-fill))
-    ∙ ap (λ (v : Yard). tokens_in v.lists) (view ∙ c.self.view_is)
+    ap tokens_in (filled-lists k (more here.After-fill)) ∙ ap (λ (v : Yard). tokens_in v.lists) (view ∙ c.self.view_is)
 
 pub returns-clause-err : goal.returns-clause-err
 returns-clause-err c =

@@ -1,5 +1,5 @@
 use Rattle.cn_yard.proofs.Common.{sym}
-use Rattle.cn_yard.proofs.Bare.{wires-are}
+use Rattle.cn_yard.proofs.Wires.{wires-are}
 use Rattle.cn_yard.proofs.yard.Yard.wires.Goals as goal
 
 pub returns : goal.returns

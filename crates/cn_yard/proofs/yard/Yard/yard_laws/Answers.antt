@@ -1,8 +1,7 @@
 use Rattle.cn_yard.proofs.Common.{inl, inr, refl, arith, lists_of}
-use Rattle.cn_yard.proofs.Bare.{bare-times, kept-live, opened}
-use Rattle.cn_yard.proofs.Readers.{few-all, tokens-all}
+use Rattle.cn_yard.proofs.Wires.{bare-times, kept-live, opened, times-most}
+use Rattle.cn_yard.proofs.Readers.{few-all, live-number, tokens-all}
 use Rattle.cn_yard.proofs.There.{there}
-use Rattle.cn_yard.proofs.Wires.{live, times-most}
 use Rattle.cn_yard.proofs.yard.Yard.yard_laws.Goals as goal
 
 pub returns-clause-once : goal.returns-clause-once
@@ -21,14 +20,10 @@ returns-clause-there c token client wire stands =
 pub returns-clause-numbers : goal.returns-clause-numbers
 returns-clause-numbers c token stands =
     let y = c.self.inside in
-    let stood = rw (← c.self.view_is) at stands in
-    let (order, k) = kept-live y token c.self.invariant stood in
-    let all = tokens-all y c.self.invariant in
-    let within = (live y order k token stood).0 in
-    rw (← c.self.view_is) (omega arith)
+    let within = live-number y c.self.invariant token (rw (← c.self.view_is) at stands) in
+    rw (← c.self.view_is) (omega (arith, tokens-all y c.self.invariant))
 
 pub returns-clause-few : goal.returns-clause-few
 returns-clause-few c =
-    let all = tokens-all c.self.inside c.self.invariant in
-    let few = few-all c.self.inside c.self.invariant in
-    rw (← c.self.view_is) (omega arith)
+    let y = c.self.inside in
+    rw (← c.self.view_is) (omega (arith, tokens-all y c.self.invariant, few-all y c.self.invariant))
