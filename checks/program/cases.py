@@ -8,6 +8,8 @@ import pathlib
 import re
 import subprocess
 
+from chosen import rows_of
+
 ROOT = pathlib.Path(__file__).resolve().parents[2]
 # What a stream of a case may be, beside open; the first is a file.
 OUTPUTS = ("file", "full", "broken", "closed")
@@ -20,8 +22,6 @@ STATUSES = {b"record ": 1, b"standard input": 1, b"../": 1, b"no such ": 2, b"a 
 LIMITS = ("growths", "bytes", "writes", "error_writes")
 # A line that stands for many: for how many numbers of epochs, how often, by which form, and the line.
 MANY = re.compile(r"(?:(\d+)x)?(\d+)([*#+])(.*)")
-# What stands in a row of the table for one of these texts.
-EITHER = re.compile(r"\{([^{}]*\|[^{}]*)\}")
 
 
 class NoCase(Exception):
@@ -253,15 +253,6 @@ class Reader:
             self.words(words)
         elif not self.whole(mark, rest) and not (self.case and (self.text(line) or self.setting(mark, rest))):
             raise NoCase(f"no line of a case: {line}")
-
-
-def rows_of(line):
-    """A line of the table with each text of {TEXT|TEXT|..} in turn, and with the same one for {}."""
-    either = EITHER.search(line)
-    for text in either[1].split("|") if either else ():
-        yield from rows_of((line[: either.start()] + text + line[either.end() :]).replace("{}", text))
-    if not either:
-        yield line
 
 
 def read(table):
