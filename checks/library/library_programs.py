@@ -77,6 +77,11 @@ class Program:
         return words.get(sanitizer, words.get("others", []))
 
 
+def tests(*names, **more):
+    """The tests in C of these names."""
+    return (Program(C / "tests" / f"{name}.c", **more) for name in names)
+
+
 GROWTHS = (C / "tests" / "growths.c", WRAPPED)
 FUZZ = Program(C / "tests" / "fuzz.c", (C / "tests" / "model.c", *sorted((C / "tests").glob("calls_*.c")), *GROWTHS))
 EPOCHS = "".join(f"epoch {epoch}: {2 * epoch + 2} clients in the first rows\n" for epoch in (1, 2, 3))
@@ -87,10 +92,7 @@ WORKERS = "64 workers filled the rows 0 to 6399, each once\n"
 STATS, CONNECTIONS = "64 threads counted to 64000 in 4 rows\n", "4000 connections had one of 16 rows each\n"
 COMPACT = "14286 of 100000 numbers are kept, without gaps\n"
 PROGRAMS = (
-    Program(C / "tests" / "carried.c", is_long=True),
-    Program(C / "tests" / "frozen.c", is_long=True),
-    Program(C / "tests" / "behind.c", is_long=True),
-    Program(C / "tests" / "atomic_steps.c", is_long=True),
+    *tests("carried", "frozen", "behind", "atomic_steps", is_long=True),
     Program(C / "examples" / "pool.c", prints="622 workers have the numbers 0 to 621\n"),
     TABLE,
     Program(C / "examples" / "lanes.cpp", prints="3000 clients have the names 0 to 2999\n"),
@@ -98,24 +100,10 @@ PROGRAMS = (
     Program(C / "examples" / "stats.c", prints=STATS, is_order_unseen=True),
     Program(C / "examples" / "connections.c", prints=CONNECTIONS, is_order_unseen=True),
     Program(C / "examples" / "compact.cpp", prints=COMPACT, is_order_unseen=True),
-    Program(C / "tests" / "names.c"),
-    Program(C / "tests" / "statuses.c"),
-    Program(C / "tests" / "listed.c"),
-    Program(C / "tests" / "handed.c"),
-    Program(C / "tests" / "asked.c", (WRAPPED,)),
-    Program(C / "tests" / "lane_size.c", (WRAPPED,)),
-    Program(C / "tests" / "joined.c"),
-    Program(C / "tests" / "memory.c", GROWTHS),
-    Program(C / "tests" / "rounds.c", GROWTHS),
-    Program(C / "tests" / "many_lanes.c"),
-    Program(C / "tests" / "lane_after_lane.c", GROWTHS),
-    Program(C / "tests" / "lanes_at_once.c", GROWTHS),
-    Program(C / "tests" / "one_for_each.c"),
-    Program(C / "tests" / "takers.c", GROWTHS),
-    Program(C / "tests" / "refilled.c"),
-    Program(C / "tests" / "next_floor.c"),
-    Program(C / "tests" / "join_all_ends.c"),
-    Program(C / "tests" / "slots_back.c"),
+    *tests("names", "statuses", "listed", "handed", "joined", "many_lanes", "one_for_each", "refilled", "next_floor",
+           "join_all_ends", "slots_back"),
+    *tests("asked", "lane_size", others=(WRAPPED,)),
+    *tests("memory", "rounds", "lane_after_lane", "lanes_at_once", "takers", others=GROWTHS),
     UNSEEN,
     Program(C / "tests" / "objects.cpp"),
     FUZZ,

@@ -5,7 +5,10 @@ checks/program/cases.table says at its head what each line means. checks/program
 import dataclasses
 import os
 import pathlib
+import re
 import subprocess
+
+from chosen import rows_of
 
 ROOT = pathlib.Path(__file__).resolve().parents[2]
 # What a stream of a case may be, beside open; the first is a file.
@@ -17,6 +20,8 @@ STATUSES = {b"record ": 1, b"standard input": 1, b"../": 1, b"no such ": 2, b"a 
             b"memory": 3, b"flaw: ": 4}
 # What a case may limit.
 LIMITS = ("growths", "bytes", "writes", "error_writes")
+# A line that stands for many: for how many numbers of epochs, how often, by which form, and the line.
+MANY = re.compile(r"(?:(\d+)x)?(\d+)([*#+])(.*)")
 
 
 class NoCase(Exception):
@@ -70,32 +75,33 @@ def unescaped(text):
 
 
 def reckoned(words, given):
-    """What checks/program/reckon prints for these words and this input."""
-    command = [ROOT / "checks" / "program" / "reckon", *words.split()]
-    return subprocess.run(command, input=given, stdout=subprocess.PIPE, check=True).stdout
+    """What checks/program/reckon prints for the words of a case and this input."""
+    said = dict(re.findall(r"--(\w+)[ =](\w+)", " ".join(words)))
+    command = [words[0], *(said[name] for name in ("network", "width") if name in said)]
+    command += [said.get("hand", "1"), *["carry"] * ("--carry" in words)] if words[0] == "run" else []
+    reckon = ROOT / "checks" / "program" / "reckon"
+    return subprocess.run([reckon, *command], input=given, stdout=subprocess.PIPE, check=True).stdout
 
 
-def lines_of(rest, given):
-    """The bytes of one line of the table, without its mark, by its form."""
-    form, _, text = rest.partition(" ")
-    if form == "":
+def lines_of(text):
+    """The bytes of a line, or of the lines for which it stands."""
+    many = MANY.fullmatch(text)
+    if not many:
         return unescaped(text) + b"\n"
-    if form == "-":
-        return unescaped(text)
-    if form == "@":
-        return reckoned(text, given)
-    if form in ("*", "#", "+"):
-        count, _, line = text.partition(" ")
-        if "x" in count:
-            epochs, _, count = count.partition("x")
-            lines = (line.replace("@", str(epoch)) for epoch in range(1, int(epochs) + 1))
-            return b"".join(lines_of(f"{form} {count} {line}", given) for line in lines)
-        if form == "*":
-            return (unescaped(line) + b"\n") * int(count)
-        first, parts = (0 if form == "#" else 1), unescaped(line + "\n").split(b"&")
-        numbers = range(first, first + int(count))
-        return b"".join(map(b"%d".join(parts).__mod__, zip(*[numbers] * (len(parts) - 1))))
-    raise NoCase(rest)
+    epochs, count, form, line = many.groups()
+    if epochs:
+        return b"".join(lines_of(f"{count}{form}{line}".replace("@", str(at))) for at in range(1, int(epochs) + 1))
+    if form == "*":
+        return (unescaped(line) + b"\n") * int(count)
+    first, parts = int(form == "+"), unescaped(line + "\n").split(b"&")
+    numbers = range(first, first + int(count))
+    return b"".join(map(b"%d".join(parts).__mod__, zip(*[numbers] * (len(parts) - 1))))
+
+
+def lines_without_blanks(text):
+    """The bytes of lines that have no blanks, and of files of examples/."""
+    return b"".join((ROOT / "examples" / word[1:]).read_bytes() if word[0] == "@" else lines_of(word)
+                    for word in text.split())
 
 
 def status_of(errors):
@@ -131,61 +137,70 @@ class Reader:
             self.fails(rest)
         elif mark == "unwritten":
             self.begin(f"to write {rest}")
-            output, _, ended = rest.partition(" ")
-            words, _, lines = ended.partition(" < ")
-            self.fails(f"{words} < {lines} ! write after 0 bytes")
+            output, _, words = rest.partition(" ")
+            self.fails(f"{words} ! write after 0 bytes")
             self.stream("output", output)
+        elif mark == "ends":
+            self.begin(f"to end with {rest}")
+            status, output, errors, words = rest.split(" ", 3)
+            self.given(words)
+            self.case.status, self.case.output, self.case.errors = int(status), output, errors
         elif mark == "helps":
             self.begin(f"to help with {rest}")
-            self.case.words = rest.split()
+            self.words(rest)
             self.text("? Usage: renamer")
-        elif mark == "shows":
-            self.begin(f"to show {rest}")
-            kind, width = rest.split()
-            self.case.words = ["show", "--network", kind, "--width", width]
-            self.case.wanted_output += reckoned(f"show {rest}", b"")
+        elif mark == "prints":
+            self.begin(f"to print {rest}")
+            self.given(rest)
+            self.text(">@")
         else:
             return False
         return True
+
+    def words(self, rest):
+        """The words of the case, of which the first may name a tool."""
+        self.case.words = [os.fsdecode(unescaped(word)) for word in rest.split()]
+        if self.case.words[:1] == ["number"]:
+            self.case.tool = self.case.words.pop(0)
+
+    def given(self, rest):
+        """Words, what the input is, and its lines, if there are any."""
+        words, _, given = rest.partition(" <")
+        how, _, lines = given.partition(" ")
+        self.words(words)
+        if not self.stream("input", how or "file"):
+            raise NoCase(rest)
+        self.case.given += lines_without_blanks(lines)
 
     def refuses(self, rest):
         """Words, and the line or the hint with which they are refused, if that is said."""
         words, says, line = rest.partition(" ! ")
         words, hints, hint = words.partition(" with ")
-        self.setting("words", words)
+        self.words(words)
         self.case.status, self.case.open_errors = 2, not says
         self.case.error_lines += [hint] if hints else []
-        self.case.wanted_errors += lines_of(f" {line}", b"") if says else b""
+        self.case.wanted_errors += lines_of(line) if says else b""
 
     def fails(self, rest):
         """Words, the lines of the input, and the fault line."""
-        words, _, ended = rest.partition(" < ")
-        lines, _, fault = ended.rpartition(" ! ")
-        self.setting("words", words)
-        self.case.given += b"".join(lines_of(f" {line}", b"") for line in lines.split())
-        self.case.wanted_errors += f"renamer: {fault}\n".encode()
+        given, _, fault = rest.rpartition(" ! ")
+        self.given(given)
+        self.case.wanted_errors += f"{self.case.tool or 'renamer'}: {fault}\n".encode()
 
     def setting(self, mark, rest):
         """A line that says one thing of the case that stands open. Whether it was one."""
         case = self.case
-        if mark == "words":
-            case.words = [os.fsdecode(unescaped(word)) for word in rest.split()]
-        elif mark in ("status", "stack", "space", *LIMITS, "spares"):
+        if mark in ("status", "stack", "space", *LIMITS, "spares"):
             setattr(case, mark, int(rest))
         elif mark == "threads":
             count, _, refused = rest.partition(" ")
             case.threads, case.refused = int(count), refused == "refused"
         elif (mark, rest) == ("interrupted", ""):
             case.interrupted = True
-        elif mark == "example":
-            case.given += (ROOT / "examples" / rest).read_bytes()
         elif mark == "version" and not rest:
             case.wanted_output += f"renamer {(ROOT / 'VERSION').read_text().strip()}\n".encode()
         elif (mark, rest) == ("by", "the script"):
             case.by_script = True
-        elif mark == "tool":
-            case.tool, _, words = rest.partition(" ")
-            return self.setting("words", words)
         else:
             return self.stream(mark, rest)
         return True
@@ -209,20 +224,20 @@ class Reader:
         return True
 
     def text(self, line):
-        """A line of input, output or errors, or a text of an open output. Whether it was one."""
-        case, rest = self.case, line[1:]
-        if line.startswith("? "):
+        """Lines of input, output or errors, or a text of an open output. Whether it was one."""
+        case, (mark, _, rest) = self.case, line.partition(" ")
+        stream = {"<": case.given, ">": case.wanted_output, "!": case.wanted_errors}.get(line[0])
+        form = {"": lines_of, "-": unescaped, line[0]: lines_without_blanks}.get(mark[1:])
+        if mark == "?":
             case.open_output = True
-            case.texts.append(line[2:])
-        elif line.startswith("lacks "):
+            case.texts.append(rest)
+        elif mark == "lacks":
             case.open_output = True
-            case.unwanted_texts.append(line[6:])
-        elif line[0] == "<":
-            case.given += lines_of(rest, bytes(case.given))
-        elif line[0] == ">":
-            case.wanted_output += lines_of(rest, bytes(case.given))
-        elif line[0] == "!":
-            case.wanted_errors += lines_of(rest, bytes(case.given))
+            case.unwanted_texts.append(rest)
+        elif line == ">@":
+            stream += reckoned(case.words, bytes(case.given))
+        elif stream is not None and form:
+            stream += form(rest)
         else:
             return False
         return True
@@ -233,7 +248,9 @@ class Reader:
             return
         mark, _, rest = line.partition(" ")
         if mark == "case" and rest:
-            self.begin(rest)
+            name, _, words = rest.partition(":")
+            self.begin(name)
+            self.words(words)
         elif not self.whole(mark, rest) and not (self.case and (self.text(line) or self.setting(mark, rest))):
             raise NoCase(f"no line of a case: {line}")
 
@@ -241,7 +258,8 @@ class Reader:
 def read(table):
     """The cases of a table."""
     reader = Reader()
-    for line in table.splitlines():
-        reader.line(line)
+    for row in table.splitlines():
+        for line in rows_of(row):
+            reader.line(line)
     reader.end()
     return reader.done
