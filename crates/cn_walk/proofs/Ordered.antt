@@ -36,7 +36,8 @@ new-name m y old was is =
     let same : ℕ → ℕ = λ x. x in
     let before = sum_by-IsPermutation same (range_with_len 0 m) old was in
     let after = sum_by-IsPermutation same (range_with_len 0 (m + 1)) (old ++ y ∷ []) is in
-    omega (arith, before, rw (add-one, range_more) at after, sum_by_push same old y, sum_by_push same (range_with_len 0 m) (0 + m))
+    let next = sum_by_push same (range_with_len 0 m) (0 + m) in
+    omega (arith, before, rw (add-one, range_more) at after, sum_by_push same old y)
 
 -- a client that is named in a lane with the whole quota gets the next name
 pub next-in-order : (start : Start) (a b : LaneValue) (client entry name : ℕ) → IsStart start → a.home.start ≡ start
@@ -52,7 +53,8 @@ next-in-order start a b client entry name began home is out sole =
     omega (arith, sole.quota, ap (λ (z : Start). z.quota) home, is.quota, entered) in
     let all = (in_state.kept.accounted in_state.id v in_state.here).all in
     let names = (e.closed_floor out (omega (arith, e.sole (omega (arith, quota, e.within)), all, out))).names in
-    let next : name ≡ length a.view.grants = new-name (length a.view.grants) name (map (λ (g : Grant). g.name) a.view.grants) sole.names
+    let next : name ≡ length a.view.grants =
+    new-name (length a.view.grants) name (map (λ (g : Grant). g.name) a.view.grants) sole.names
     (rw (is.grants, length-append, map-append) at names) in (
       record {
         quota = omega (arith, quota, ap (λ (z : Start). z.quota) home, ap (λ (h : FloorValue). h.start.quota) is.home);

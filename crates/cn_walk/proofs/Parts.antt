@@ -38,8 +38,9 @@ whole-ready home n hand (One lane worker) r = r
 whole-ready home n hand (Fork' at p left q right) r = r.0
 
 -- a later worker's clients come later
-pub first-later : (k w a b : ℕ) → 0 < w → a ≤ b → first_position k w a ≤ first_position k w b
-first-later k w a b some h = le-div (a * k / w) (b * k) w some (omega (arith, div-mul-le_self (a * k) w, mul-le-mul_right k h))
+pub rises : (k w a b : ℕ) → 0 < w → a ≤ b → first_position k w a ≤ first_position k w b
+rises k w a b some h = le-div (a * k / w) (b * k) w some
+    (omega (arith, div-mul-le_self (a * k) w, mul-le-mul_right k h))
 
 -- workers before, or after, who have no clients: the lanes are of them too
 pub none_before : (k w from middle to : ℕ) (lanes : Lanes) → from ≤ middle → first_position k w middle ≡ first_position k w from
@@ -67,7 +68,8 @@ pub right-nothing : (q : ℕ) (a b : LaneValue) → b ≡ record (empty_lane a.h
 right-nothing q a b same = grind (arith, nobody-in)
 
 -- what a pair of parts that are ready is ready for
-pub pair-ready : (home : FloorValue) (n at r hand : ℕ) (left right lanes : Lanes) → IsPair at left right lanes → n ≡ at + r
+pub pair-ready : (home : FloorValue) (n at r hand : ℕ) (left right lanes : Lanes) → IsPair at left right lanes
+    → n ≡ at + r
     → n ≤ (whole left).room → min n hand ≤ (whole left).yard.spare
     → AreReady home at hand left → AreReady home r hand right → AreReady home n hand lanes
 pair-ready home n at r hand left right lanes is all room spare a b =

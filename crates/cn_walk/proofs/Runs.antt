@@ -81,7 +81,8 @@ from-zero network clients q is =
       counts = rw (nobody, first-shares (length clients) t.width) at is.counts;
       passes = λ f full from.
           is.passes f full (λ u l. omega (arith, from u l, none-entered t u))
-          ∙ map-same (λ b. sum_at t (Balancer b) f - count_in t (zero_words network).words (Balancer b)) (λ b. sum_at t (Balancer b) f) 0
+          ∙ map-same (λ b. sum_at t (Balancer b) f - count_in t (zero_words network).words (Balancer b))
+          (λ b. sum_at t (Balancer b) f) 0
           t.balancers (λ b l h. omega (arith, none-counted t (Balancer b)));
       names = is.names;
       named = λ j d l. let p = is.named j d l in (p.0, omega (arith, p.1, nobody));

@@ -17,7 +17,8 @@ module _ (start : Start) (wire : ℕ) (end : End) (formed : IsWellFormed start.n
   May = MayGo start wire end formed low ends stands
 
   -- a token lands on a wire of the lane
-  lands : (e : End) → Stands start.network.table e → (n : ℕ) (v : View) (tokens : List (ℕ × ℕ)) → May v tokens → Lands n v e
+  lands : (e : End) → Stands start.network.table e → (n : ℕ) (v : View) (tokens : List (ℕ × ℕ)) → May v tokens
+      → Lands n v e
   lands (Balancer b) there n v tokens may =
       let same = ap (λ (s : Start). output_wire s.network.table b (n % 2)) may.of in
       omega (arith, same, there, formed.wires, may.wires, mod_below n 2 (omega arith))
@@ -34,9 +35,10 @@ module _ (start : Start) (wire : ℕ) (end : End) (formed : IsWellFormed start.n
       let there = lands end stands n v ((token, client) ∷ rest) may in
       let inside : wire < length v.start.network.table.ends = rw may.of low in
       let on : LeadsOn v.start.network.table wire end = rw (may.of, ← ends) (formed.forward wire low) in
+      let out = λ (f : ℕ → ℕ). sum_by-cons (out-by f end) (token, client) rest in
       let (others, fewer) = all-go rest (after_step token client end n v) (n + 1)
       (rest-may start wire end formed low ends stands n v token client rest may) in (
-        λ f. omega (arith, went-by token client wire n v is f end there, others f, sum_by-cons (out-by f end) (token, client) rest),
+        λ f. omega (arith, went-by token client wire n v is f end there, others f, out f),
         omega (arith, less-went token client wire n v is inside end there on, fewer),
       )
 
@@ -59,7 +61,8 @@ module _ (a b : LaneValue) (wire n : ℕ) (answer : Sweep) (formed : IsWellForme
   granted : (e : End) → b.view ≡ after_sweep wire e n v
       → ((f : ℕ → ℕ) → inside_by f b.view + sum_by (out-by f e) tokens ≡ inside_by f v)
       → (more : List Grant) × (b.view.grants ≡ v.grants ++ more)
-      × ((f : ℕ → ℕ) → sum_by (λ g. f g.client) more + inside_by f b.view ≡ inside_by f v + sum_by (λ (c : Client). f c.id) [])
+      × ((f : ℕ → ℕ) → sum_by (λ g. f g.client) more + inside_by f b.view
+      ≡ inside_by f v + sum_by (λ (c : Client). f c.id) [])
   granted (Balancer c) view weighed = (
     [],
     rw view (grants-kept c n tokens v ∙ sym (append-nil v.grants)),
@@ -76,7 +79,8 @@ module _ (a b : LaneValue) (wire n : ℕ) (answer : Sweep) (formed : IsWellForme
   sweeps =
       let e : End = end_of a.home.start.network.table wire in
       let like = kin-by e n tokens v in
-      let (weighed, less) = all-go a.home.start wire e formed inside refl (formed.stands wire inside) tokens v n (record {
+      let (weighed, less) = all-go a.home.start wire e formed inside refl (formed.stands wire inside) tokens v n
+      (record {
         on_wire = refl;
         once = λ k. rw held.tokens at (held.once k);
         wires = ap length (sym held.tokens) ∙ held.wires;
@@ -99,6 +103,8 @@ module _ (a b : LaneValue) (wire n : ℕ) (answer : Sweep) (formed : IsWellForme
   pub clear-below : ((u : ℕ) → u < wire → on a.yard.lists u ≡ []) → (u : ℕ) → u < wire → on b.yard.lists u ≡ []
   clear-below clear u low = by (end_of a.home.start.network.table wire) (formed.forward wire inside) is.yard
     where
-      by : (e : End) → LeadsOn a.home.start.network.table wire e → PutsAll a.home.start wire e n a.yard b.yard → on b.yard.lists u ≡ []
-      by (Balancer c) forward dealt = dealt.others u (λ same. omega arith) (λ same. omega arith) (λ same. omega arith) ∙ clear u low
+      by : (e : End) → LeadsOn a.home.start.network.table wire e → PutsAll a.home.start wire e n a.yard b.yard
+          → on b.yard.lists u ≡ []
+      by (Balancer c) forward dealt =
+          dealt.others u (λ same. omega arith) (λ same. omega arith) (λ same. omega arith) ∙ clear u low
       by (Exit i) forward cleared = cleared.others u (λ same. omega arith) ∙ clear u low

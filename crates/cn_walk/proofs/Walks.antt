@@ -129,8 +129,10 @@ module _ (token client wire n : ℕ) (v : View) (is : IsThere v.tokens token cli
   shifted f end onto each =
       let m : ℕ = length v.tokens in
       let w : View = after_step token client end n v in
-      let moved = sum-below-shift m (weight f w) (λ u. when (eqb wire u) (f client)) (weight f v) onto (λ u l. each u) in
-      omega (arith, ap (λ (k : ℕ). sum_below k (weight f w)) (long end), moved, sum-below-one m wire (f client) is.inside)
+      let moved = sum-below-shift m (weight f w) (λ u. when (eqb wire u) (f client)) (weight f v) onto
+      (λ u l. each u) in
+      let one = sum-below-one m wire (f client) is.inside in
+      omega (arith, ap (λ (k : ℕ). sum_below k (weight f w)) (long end))
 
   -- nobody is lost or made
   pub went-by : (f : ℕ → ℕ) (end : End) → Lands n v end
@@ -141,24 +143,28 @@ module _ (token client wire n : ℕ) (v : View) (is : IsThere v.tokens token cli
       (λ u. weigh-pass v.tokens token client wire to is lands u (λ e. f e.1)) in
       omega (arith, moved, sum-below-one (length v.tokens) to (f client) lands)
   went-by f (Exit i) lands =
-      let moved = shifted f (Exit i) (λ u. 0) (λ u. omega (arith, weigh-leave v.tokens token client wire is u (λ e. f e.1))) in
+      let moved = shifted f (Exit i) (λ u. 0)
+      (λ u. omega (arith, weigh-leave v.tokens token client wire is u (λ e. f e.1))) in
       omega (arith, moved, sum-below-zero (length v.tokens) (λ _. 0) (λ _. refl))
 
   -- how much less is left
   abbrev g : ℕ → ℕ
   g u = length v.tokens - u
 
-  left : (end : End) → sum_below (length (after_step token client end n v).tokens) (λ u. g u * on_in u (after_step token client end n v))
+  left : (end : End) → sum_below (length (after_step token client end n v).tokens)
+      (λ u. g u * on_in u (after_step token client end n v))
       ≡ steps_left (after_step token client end n v)
   left end =
       let w : View = after_step token client end n v in
       ap (λ (k : ℕ). sum_below (length w.tokens) (λ u. (k - u) * on_in u w)) (sym (long end))
 
-  pub less-went : wire < length v.start.network.table.ends → (end : End) → Lands n v end → LeadsOn v.start.network.table wire end
+  pub less-went : wire < length v.start.network.table.ends → (end : End) → Lands n v end
+      → LeadsOn v.start.network.table wire end
       → steps_left (after_step token client end n v) < steps_left v
   less-went there (Balancer b) lands on =
       let went = weighed-went v.start.network token client wire n v is there refl g (Balancer b) lands in
-      omega (arith, left (Balancer b), went, at-one (length v.tokens) (output_wire v.start.network.table b (n % 2)) g lands)
+      let one = at-one (length v.tokens) (output_wire v.start.network.table b (n % 2)) g lands in
+      omega (arith, left (Balancer b))
   less-went there (Exit i) lands on =
       let went = weighed-went v.start.network token client wire n v is there refl g (Exit i) tt in
       omega (arith, left (Exit i), went, at-none (length v.tokens) g, is.inside)

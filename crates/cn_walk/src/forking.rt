@@ -35,7 +35,7 @@ fn first_position(clients: u32, workers: u32, worker: u32) -> u32
 }
 
 /// The first worker of the second of two parts, which has about a quarter of the workers.
-fn middle_of(from: u32, to: u32) -> u32
+fn cut(from: u32, to: u32) -> u32
     requires { from + 2 ≤ to }
     ensures { (from < result) × (result < to) }
 {
@@ -76,7 +76,7 @@ pub(crate) fn make_lanes<'a>(
     if own == 0 || to - from == 1 {
         return Some(Lanes::One(lane, from));
     }
-    let middle = middle_of(from, to);
+    let middle = cut(from, to);
     let at = first_position(clients, crew.workers, middle) - first;
     if at == 0 {
         return make_lanes(alloc, floor, lane, clients, crew, middle, to);

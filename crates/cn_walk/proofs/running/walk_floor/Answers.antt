@@ -37,4 +37,5 @@ returns-in-Ok-clause-in_order g c worker hand =
     let single = one-worker k c.args.crew.workers 0 c.args.crew.workers c.in-Some.lanes (omega (arith, worker)) c.in-Some.ensures.workers in
     let order = c.walk_lanes-lane.ensures.in_order hand single
     (new-sole c.args.floor k c.args.crew.hand (whole c.in-Some.lanes) c.requires.quota ready) in
-    rw c.in-Ok.ensures.closed.1 (all-in-order (whole c.in-Some.lanes) c.walk_lanes-lane.result c.args.clients.now ready.nothing order)
+    rw c.in-Ok.ensures.closed.1 (all-in-order (whole c.in-Some.lanes) c.walk_lanes-lane.result c.args.clients.now
+    ready.nothing order)

@@ -18,7 +18,8 @@ loop-rest-preserved g c =
       quota = omega (arith, was.quota, came.walked.quota, out.walked.quota, cut.front_len, cut.back_len);
       room = omega (arith, was.room, came.walked.room, out.walked.room, cut.front_len, cut.back_len);
       spare = omega (arith, was.spare, was.out, came.walked.records, out.walked.records, out.out, cut.front_len, cut.back_len);
-      walks = λ last w. was.walks last (rw cut.by_index.0 (walks-on _ _ _ _ _ came.walked (walks-on _ _ _ [] _ out.walked w)));
+      walks = λ last w. was.walks last
+          (rw cut.by_index.0 (walks-on _ _ _ _ _ came.walked (walks-on _ _ _ [] _ out.walked w)));
     }
 
 pub loop-rest-init : goal.loop-rest-init
@@ -40,5 +41,6 @@ returns-clause-walked g c =
     let held : IsHeld c.args.lane = assumption c.lane_laws.ensures in
     let was = c.loop-rest.invariant in
     let none = nil_from_length c.loop-rest.rest.now (search rules) in
-    walked c.args.lane c.loop-rest.lane c.args.clients.now (was.walks c.loop-rest.lane (rw none (stays c.loop-rest.lane))) was.out
+    walked c.args.lane c.loop-rest.lane c.args.clients.now
+    (was.walks c.loop-rest.lane (rw none (stays c.loop-rest.lane))) was.out
     (none_by c.args.lane held c.requires.out) was.nobody

@@ -28,7 +28,8 @@ loop-client-preserved g c =
           (names-one _ _ _ _ _ named (none_by _ was.held was.out) (none_by _ held out));
       ordered = λ sole.
           let (here, before) = was.ordered sole in
-          let next = next-in-order c.args.floor.now.start _ b _ _ _ c.start_laws.ensures home named (rw laws.tokens at out) here in
+          let next = next-in-order c.args.floor.now.start _ b _ _ _ c.start_laws.ensures home named
+          (rw laws.tokens at out) here in
           (next.0, next-in-list c.args.lane c.loop-client.lane b _ (record { id = 0; entry = 0 }) _ c.loop-client-test.true before next.1);
     }
 
