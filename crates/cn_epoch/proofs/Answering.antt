@@ -132,7 +132,8 @@ replied old new event reply by (number, carries) turns history kept agrees =
 
 pub entered-by : (old new : Epochs) (client entry : ℕ) (reply : Reply) → RepliesByHistory old (EnterEvent client entry) reply new
     → AnswersCommandByHistory old (Enter client entry) (Replied reply) new
-entered-by old new client entry reply by turns history kept agrees = let after = by turns history kept agrees in grind arith
+entered-by old new client entry reply by turns history kept agrees =
+    let after = by turns history kept agrees in grind arith
 
 pub stepped-by : (old new : Epochs) (client : ℕ) (reply : Reply) → RepliesByHistory old (StepEvent client) reply new
     → AnswersCommandByHistory old (Step client) (Replied reply) new

@@ -20,7 +20,8 @@ module _ (network : Network) (is : IsNetwork network) where
     counts = ext_get_or 0 r.counts.items s.counts.items (one.exits ∙ sym other.exits) (λ i below.
         omega (arith, one.exits, one.counts i (omega (arith, one.exits)), other.counts i (omega (arith, one.exits))));
     holders = ext_get_or 0 r.holders.items s.holders.items (one.names ∙ sym other.names) (λ name below.
-        holder (slice_index r.holders.items name) (slice_index s.holders.items name) name (one.holders name (omega (arith, one.names)))
+        holder (slice_index r.holders.items name) (slice_index s.holders.items name) name
+        (one.holders name (omega (arith, one.names)))
         (other.holders name (omega (arith, one.names))));
   }
 
@@ -96,7 +97,8 @@ module _ (network : Network) (is : IsNetwork network) where
       let now : (carried_by t (earlier_in kept)).enters ≤ MOST_CARRIED =
       omega (arith, few, grows kept history (command ∷ commands) (answer ∷ answers)) in
       let same = same-answer turns history (carried_by t (earlier_in kept)) command answer other
-      (one-holder-after network history (earlier_in kept) is epochs now) may might (All-head HadMemory answer answers had)
+      (one-holder-after network history (earlier_in kept) is epochs now) may might
+      (All-head HadMemory answer answers had)
       (All-head HadMemory other others also) in
       let (before, accepted) = left turns history kept command answer may (epochs, was) in (
         same,

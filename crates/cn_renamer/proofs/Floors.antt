@@ -84,7 +84,8 @@ one-held : (epoch : BatchEpoch) (floors : List QuietValue) (lists : List (List �
     → AllZip (λ (f : QuietValue) (list : List ℕ). ListsHolders f.did.grants list) floors lists
     → holders ≡ flat_map (λ (list : List ℕ). list) lists
     → length holders ≡ length epoch.clients.items
-one-held epoch (f ∷ []) (h ∷ []) holders walked listed all = rw (all, append-nil) (listed.0.all ∙ walked.0.theirs.as_many)
+one-held epoch (f ∷ []) (h ∷ []) holders walked listed all =
+    rw (all, append-nil) (listed.0.all ∙ walked.0.theirs.as_many)
 one-held epoch floors lists holders walked listed all = search
 
 -- as many hold names as came

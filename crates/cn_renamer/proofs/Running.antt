@@ -84,9 +84,11 @@ pub run-written : {W : Type 0} (contents : W → Option (List ℕ)) (old new : W
     → ((records : List EpochRecord) → AreRecordsOf carry network.table.width 0 epochs records holders
     → HasWritten contents (λ text. text ≡ text_in form network records) written old new)
     → HasWritten contents (IsRunOfKnown net form carry large known) written old new
-    × (crew.workers ≡ 1 → crew.hand ≡ 1 → HasWritten contents (IsRunInOrderOfKnown net form carry large known) written old new)
+    × (crew.workers ≡ 1 → crew.hand ≡ 1
+    → HasWritten contents (IsRunInOrderOfKnown net form carry large known) written old new)
     × HasWritten contents (IsRunOnFloorsOfKnown net form carry large floors known) written old new
-run-written contents old new net form carry large network built known epochs batch fits crew floors holders walked written writes =
+run-written contents old new net form carry large network built known epochs batch fits crew floors holders walked
+    written writes =
     let w : ℕ = network.table.width in
     let m : AreMadeOf carry w 0 epochs floors holders = rw walked.all
     (records-made carry network.table.entries w 0 (zero_words network) epochs floors walked.lists refl (none-came network.table)
@@ -97,8 +99,10 @@ run-written contents old new net form carry large network built known epochs bat
     let put : (Is : List ℕ → List ℕ → Type 0) → ((bytes text : List ℕ) → IsIt bytes → IsWhole text → Is bytes text)
     → HasWritten contents (λ text. IfSome known (λ bytes. Is bytes text)) written old new =
     λ Is is. written-map contents IsWhole (λ text. IfSome known (λ bytes. Is bytes text)) written old new
-    (λ text same. known-map known IsIt (λ bytes. Is bytes text) batch (λ bytes it. is bytes text it same)) (writes m.records m.are) in
-    let run : (bytes text : List ℕ) → IsIt bytes → IsWhole text → IsRunOf net form carry large bytes text = λ bytes text it same. record {
+    (λ text same. known-map known IsIt (λ bytes. Is bytes text) batch (λ bytes it. is bytes text it same))
+    (writes m.records m.are) in
+    let run : (bytes text : List ℕ) → IsIt bytes → IsWhole text → IsRunOf net form carry large bytes text =
+    λ bytes text it same. record {
       epochs = epochs;
       batch = rw built.2.entries at it;
       network = network;

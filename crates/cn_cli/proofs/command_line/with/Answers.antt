@@ -9,5 +9,6 @@ pub returns : goal.returns
 returns c =
     let asked : IfOk c.args.subcommand (λ made. (app_of made).top.is_plain ≡ true) = c.requires in
     let plain : (app_of c.in_ok-subcommand.field-0).top.is_plain ≡ true = rw c.in_ok-subcommand.was at asked in
-    IfOk-weaker c.subcommand.result _ _ (λ whole adds. rw c.in_ok-subcommand.was (adds.shape (has_no_global _ _ _ _ plain)))
+    IfOk-weaker c.subcommand.result _ _
+    (λ whole adds. rw c.in_ok-subcommand.was (adds.shape (has_no_global _ _ _ _ plain)))
     c.subcommand.ensures

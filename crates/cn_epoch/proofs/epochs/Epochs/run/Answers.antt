@@ -23,11 +23,13 @@ loop-command-preserved c = record {
   carries = c.answer-answer.ensures.carries ∙ c.loop-command.invariant.carries;
   came = let before = c.loop-command.invariant.came in let more = c.answer-answer.ensures.came in omega arith;
   events = λ rest new runs.
-      rw (c.push_reserved.ensures.items, append_assoc) (c.loop-command.invariant.events (c.answer-answer.result ∷ rest) new
+      rw (c.push_reserved.ensures.items, append_assoc)
+      (c.loop-command.invariant.events (c.answer-answer.result ∷ rest) new
       (runs_to-at c.loop-command.self c.answer-answer.new.self new c.args.commands.now c.loop-command.command-index (Enter 0 0)
       c.answer-answer.result rest c.loop-command-test.true c.answer-answer.ensures.event runs));
   rest = λ rest new runs.
-      rw (c.push_reserved.ensures.items, append_assoc) (c.loop-command.invariant.rest (c.answer-answer.result ∷ rest) new
+      rw (c.push_reserved.ensures.items, append_assoc)
+      (c.loop-command.invariant.rest (c.answer-answer.result ∷ rest) new
       (runs-at c.loop-command.self c.answer-answer.new.self new c.args.commands.now c.loop-command.command-index (Enter 0 0)
       c.answer-answer.result rest c.loop-command-test.true c.answer-answer.ensures.history c.answer-answer.ensures.network runs));
 }
