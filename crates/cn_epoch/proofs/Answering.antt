@@ -1,9 +1,9 @@
 -- The answers of epochs by their turns and history.
-use Rattle.cn_epoch.proofs.Common.{◌≡◌, ℕ, ◌+◌, ◌<◌, ◌≤◌, Bool, true, false, refl, subst, List, [], ◌∷◌, length, get_or, drop, sym, ap, ◌∙◌, arith, Option, Some, None, slice_index, drop_more, share, Event, Reply, AgreesAfter, Carried, inside_of, carried_by, State, came_in, inside_in, name_at, position_in, HasShares, IsTightState, Answer, Replied, Turned, TurnRefused, Memory, NotQuiet, Command, Enter, Step, Turn, AnswersCommandByHistory, RepliesByHistory, RunsCommandsByHistory, RunsCommandsTo, TakesCommandTo, TellsEpoch, ByEpochHistories, Epochs, EpochsAgree, IsRecordOf, earlier_after, earlier_in, kept_after, next, IsTightRecord}
+use Rattle.cn_epoch.proofs.Common.{◌≡◌, ℕ, ◌+◌, ◌<◌, ◌≤◌, Bool, subst, List, [], ◌∷◌, length, get_or, drop, sym, ap, ◌∙◌, arith, Option, Some, None, slice_index, drop_more, share, Event, Reply, AgreesAfter, Carried, inside_of, carried_by, came_in, inside_in, name_at, position_in, HasShares, IsTightState, Answer, Replied, Turned, TurnRefused, Memory, Command, Enter, Step, Turn, AnswersCommandByHistory, RepliesByHistory, RunsCommandsByHistory, RunsCommandsTo, TakesCommandTo, TellsEpoch, ByEpochHistories, Epochs, EpochsAgree, IsRecordOf, earlier_in, kept_after, next, IsTightRecord}
 use Rattle.cn_tables.specs.declared.end.End.TheVariants.{Exit}
 use Rattle.cn_core.specs.declared.event.Event.TheVariants.{Enter as EnterEvent, Step as StepEvent}
 use Rattle.cn_core.specs.declared.position.Position.{Position}
-use Rattle.cn_core.specs.declared.position.Position.TheVariants.{On, Holds}
+use Rattle.cn_core.specs.declared.position.Position.TheVariants.{Holds}
 use Rattle.cn_core.specs.History as core
 use Rattle.cn_core.specs.Calls.{AnswersByHistory}
 use Rattle.cn_core.proofs.CallerLemmas.{came-after as event-after, Agrees-after_carry, Agrees-start, inside-by_history}
@@ -12,9 +12,7 @@ use Rattle.cn_ledger.specs.declared.record.EpochRecord.{EpochRecord}
 -- ---- a turn
 
 named : (p : Option Position) (name : ℕ) → name_at p ≡ Some name → p ≡ Some (Holds name)
-named None name e = absurd (cc)
-named (Some (On wire)) name e = absurd (cc)
-named (Some (Holds other)) name e = ap (λ n. Some (Holds n)) (let same : other ≡ name = cc in same)
+named p name e = grind arith
 
 pub said-tight : (old : Epochs) (r : EpochRecord) → TellsEpoch old r → came_in old.core ≡ old.core.base + length old.core.clients
     → IsTightState old.core → IsTightRecord old.core.network.table.width old.core.base r
@@ -57,9 +55,6 @@ quiet-by_history : (old : Epochs) → inside_in old.core ≡ 0
 quiet-by_history old quiet turns history kept agrees =
     sym (inside-by_history old.core history (carried_by old.core.network.table (earlier_in kept)) agrees.core.1) ∙ quiet
 
-next-by : (core : State) (carries is : Bool) → carries ≡ is → next carries core ≡ next is core
-next-by core carries is same = ap (λ carries. next carries core) same
-
 -- the next epoch agrees with the history that a turn leaves
 begun-after : (old : Epochs) (turns : ℕ) (history : List Event) (kept : Option (List (List Event))) (r : EpochRecord)
     → inside_in old.core ≡ 0 → EpochsAgree old turns history kept
@@ -68,12 +63,12 @@ begun-after : (old : Epochs) (turns : ℕ) (history : List Event) (kept : Option
 begun-after old turns history None r quiet agrees = record {
   number = ap (λ (n : ℕ). n + 1) agrees.number;
   carries = agrees.carries;
-  core = subst (λ s. core.Agrees s [] []) (sym (next-by old.core old.carries false agrees.carries)) (Agrees-start old.core.network);
+  core = subst (λ (b : Bool). core.Agrees (next b old.core) [] []) (sym agrees.carries) (Agrees-start old.core.network);
 }
 begun-after old turns history (Some earlier) r quiet agrees = record {
   number = ap (λ (n : ℕ). n + 1) agrees.number;
   carries = agrees.carries;
-  core = subst (λ s. core.Agrees s [] (history ∷ earlier)) (sym (next-by old.core old.carries true agrees.carries))
+  core = subst (λ (b : Bool). core.Agrees (next b old.core) [] (history ∷ earlier)) (sym agrees.carries)
       (Agrees-after_carry old.core history earlier quiet agrees.core);
 }
 
@@ -91,48 +86,30 @@ turned-after old new r said shares quiet is turns history kept agrees = (
 )
 
 pub memory-after : (old : Epochs) → inside_in old.core ≡ 0 → AnswersCommandByHistory old Turn (TurnRefused Memory) old
-memory-after old quiet turns history None agrees = (quiet-by_history old quiet turns history None agrees, agrees)
-memory-after old quiet turns history (Some earlier) agrees = (quiet-by_history old quiet turns history (Some earlier) agrees, agrees)
+memory-after old quiet turns history kept agrees = (quiet-by_history old quiet turns history kept agrees, grind arith)
 
 -- those that are carried and those that entered are one more at most
-came-next : (core : State) (carries : Bool)
-    → (next carries core).base + length (next carries core).clients ≤ core.base + length core.clients + 1
-came-next core true = omega arith
-came-next core false = omega arith
-
 pub came-after : (old : Epochs) (command : Command) (answer : Answer) (new : Epochs) → TakesCommandTo old command answer new
     → (new.carries ≡ old.carries) × (new.core.base + length new.core.clients ≤ old.core.base + length old.core.clients + 1)
 came-after old (Enter client entry) (Replied reply) new (goes, ledger, number, carries) =
     (carries, event-after old.core new.core (EnterEvent client entry) reply goes)
-came-after old (Enter client entry) (Turned r) new none = absurd none
-came-after old (Enter client entry) (TurnRefused fault) new none = absurd none
 came-after old (Step client) (Replied reply) new (goes, ledger, number, carries) =
     (carries, event-after old.core new.core (StepEvent client) reply goes)
-came-after old (Step client) (Turned r) new none = absurd none
-came-after old (Step client) (TurnRefused fault) new none = absurd none
-came-after old Turn (Turned r) new (quiet, said, tight, e) = rw e (refl, came-next old.core old.carries)
-came-after old Turn (TurnRefused (NotQuiet s)) new (some, inside, e) = rw e (refl, omega arith)
-came-after old Turn (TurnRefused Memory) new (quiet, e) = rw e (refl, omega arith)
-came-after old Turn (Replied reply) new none = absurd none
+came-after old command answer new goes = grind arith
 
 -- ---- commands one after another
 
 pub runs-none : (epochs : Epochs) → RunsCommandsByHistory epochs [] [] epochs
-runs-none epochs turns history None agrees = (tt, agrees)
-runs-none epochs turns history (Some earlier) agrees = (tt, agrees)
+runs-none epochs turns history kept agrees = grind arith
 
 -- the first answer, and those to what is left
 runs-first : (old mid new : Epochs) (c : Command) (cs : List Command) (a : Answer) (rest : List Answer)
     → AnswersCommandByHistory old c a mid → mid.core.network ≡ old.core.network → RunsCommandsByHistory mid cs rest new
     → RunsCommandsByHistory old (c ∷ cs) (a ∷ rest) new
-runs-first old mid new c cs a rest answered same runs turns history None agrees =
-    let (may, after) = answered turns history None agrees in
-    let (others, last) = runs _ _ None after in
-    ((may, rw same at others), last)
-runs-first old mid new c cs a rest answered same runs turns history (Some earlier) agrees =
-    let (may, after) = answered turns history (Some earlier) agrees in
-    let (others, last) = runs _ _ (Some (earlier_after earlier history a)) after in
-    ((may, rw same at others), last)
+runs-first old mid new c cs a rest answered same runs turns history kept agrees =
+    let (may, after) = answered turns history kept agrees in
+    let (others, last) = runs _ _ (kept_after kept history a) after in
+    ((may, rw same at others), grind (arith, last))
 
 pub runs-at : (old mid new : Epochs) (cs : List Command) (i : ℕ) (d : Command) (a : Answer) (rest : List Answer) → i < length cs
     → AnswersCommandByHistory old (get_or cs i d) a mid → mid.core.network ≡ old.core.network
@@ -155,10 +132,9 @@ replied old new event reply by (number, carries) turns history kept agrees =
 
 pub entered-by : (old new : Epochs) (client entry : ℕ) (reply : Reply) → RepliesByHistory old (EnterEvent client entry) reply new
     → AnswersCommandByHistory old (Enter client entry) (Replied reply) new
-entered-by old new client entry reply by turns history None agrees = by turns history None agrees
-entered-by old new client entry reply by turns history (Some earlier) agrees = by turns history (Some earlier) agrees
+entered-by old new client entry reply by turns history kept agrees =
+    let after = by turns history kept agrees in grind arith
 
 pub stepped-by : (old new : Epochs) (client : ℕ) (reply : Reply) → RepliesByHistory old (StepEvent client) reply new
     → AnswersCommandByHistory old (Step client) (Replied reply) new
-stepped-by old new client reply by turns history None agrees = by turns history None agrees
-stepped-by old new client reply by turns history (Some earlier) agrees = by turns history (Some earlier) agrees
+stepped-by old new client reply by turns history kept agrees = let after = by turns history kept agrees in grind arith

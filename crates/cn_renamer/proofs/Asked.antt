@@ -1,5 +1,5 @@
 -- What a run has written, by what was asked of it.
-use Rattle.cn_renamer.proofs.Common.{◌≡◌, ℕ, ap, inl, inr, List, Bool, Option, Some, None, is_some, known-map, written-map, HasWritten, Written, IsRunInOrder, IsRunInOrderOfKnown, IsRunOf, IsRunOfKnown, IsTextOf, walkers, walkers_asked, walkers_by}
+use Rattle.cn_renamer.proofs.Common.{◌≡◌, arith, ℕ, inl, inr, List, Option, is_some, known-map, written-map, HasWritten, Written, IsRunInOrder, IsRunInOrderOfKnown, IsRunOf, IsRunOfKnown, IsTextOf, walkers, walkers_asked}
 use Rattle.std.proofs.lemmas.Bool.{cases_eq}
 use Rattle.cn_cli.specs.Options.{Settings}
 use Rattle.cn_cli.specs.declared.words.Job.TheVariants as job
@@ -7,8 +7,7 @@ use Rattle.cn_cli.specs.declared.words.Job.TheVariants as job
 -- a gate makes all workers walk each epoch, and without one one does
 pub walkers-as-asked : {G : Type 0} (gate : Option G) (options : Settings) → is_some gate ≡ options.together
     → walkers gate options.workers ≡ walkers_asked options
-walkers-as-asked (Some gate) options same = ap (λ (together : Bool). walkers_by together options.workers) same
-walkers-as-asked None options same = ap (λ (together : Bool). walkers_by together options.workers) same
+walkers-as-asked gate options same = grind arith
 
 -- by one worker with one client in hand it is the text of a run in order, and else that of a run
 pub run-as-asked : {W : Type 0} (contents : W → Option (List ℕ)) (old new : W) (options : Settings) (known : Option (List ℕ))

@@ -8,9 +8,8 @@ use Rattle.cn_renamer.proofs.Served.{IsMadeOf, made-of}
 zip-both : {A B : Type 0} (R : A → B → Type 0) (xs : List A) (ys : List B) (us : List A) (vs : List B) → AllZip R xs ys → AllZip R us vs
     → AllZip R (xs ++ us) (ys ++ vs)
 zip-both R [] [] us vs one other = other
-zip-both R [] (y ∷ ys) us vs one other = absurd one
-zip-both R (x ∷ xs) [] us vs one other = absurd one
 zip-both R (x ∷ xs) (y ∷ ys) us vs (first, rest) other = (first, zip-both R xs ys us vs rest other)
+zip-both R xs ys us vs one other = absurd one
 
 began-both : (runner : RunnerValue) (fs gs : List QuietValue) → AreOfRunner runner fs → AreOfRunner (runner_after runner fs) gs
     → AreOfRunner runner (fs ++ gs)
@@ -85,12 +84,9 @@ one-held : (epoch : BatchEpoch) (floors : List QuietValue) (lists : List (List �
     → AllZip (λ (f : QuietValue) (list : List ℕ). ListsHolders f.did.grants list) floors lists
     → holders ≡ flat_map (λ (list : List ℕ). list) lists
     → length holders ≡ length epoch.clients.items
-one-held epoch [] lists holders walked listed all = absurd walked
-one-held epoch (f ∷ []) [] holders walked listed all = absurd listed
 one-held epoch (f ∷ []) (h ∷ []) holders walked listed all =
-    ap (λ (xs : List ℕ). length xs) (all ∙ append-nil h) ∙ listed.0.all ∙ walked.0.theirs.as_many
-one-held epoch (f ∷ []) (h ∷ i ∷ lists) holders walked listed all = absurd listed.1
-one-held epoch (f ∷ g ∷ floors) lists holders walked listed all = absurd walked.1
+    rw (all, append-nil) (listed.0.all ∙ walked.0.theirs.as_many)
+one-held epoch floors lists holders walked listed all = search
 
 -- as many hold names as came
 pub many-held : (crew : Crew) (runner : RunnerValue) (epoch : BatchEpoch) (floors : List QuietValue) (holders : List ℕ)
@@ -102,14 +98,12 @@ many-held crew runner epoch floors holders walked = one-held epoch floors walked
 
 next-network : (carry : Bool) (words : WordsValue) (floor : QuietValue) → words_before floor.start ≡ words
     → (next_words carry words floor).network ≡ words.network
-next-network true words floor began = ap (λ (w : WordsValue). w.network) began
-next-network false words floor began = refl
+next-network carry words floor began = grind arith
 
 next-few : (carry : Bool) (words : WordsValue) (epoch : BatchEpoch) (floor : QuietValue) → words_before floor.start ≡ words
     → WalkedOn epoch floor
     → client_count (next_words carry words floor) ≤ client_count words + length epoch.clients.items
-next-few true words epoch floor began walked = omega (arith, walked.came, ap client_count began)
-next-few false words epoch floor began walked = omega arith
+next-few carry words epoch floor began walked = let same = ap client_count began in grind arith
 
 -- they are of its network, and count no more than came
 pub same-network : (runner : RunnerValue) (floors : List QuietValue) → AreOfRunner runner floors
@@ -124,8 +118,6 @@ pub few-came : (runner : RunnerValue) (epochs : List BatchEpoch) (floors : List 
     → client_count (runner_after runner floors).words ≤ client_count runner.words + clients_of_epochs epochs
 unfolding AreOfRunner
 few-came runner [] [] began walked = omega arith
-few-came runner [] (f ∷ floors) began walked = absurd walked
-few-came runner (e ∷ epochs) [] began walked = absurd walked
 few-came runner (e ∷ epochs) (f ∷ floors) (first, began) (one, rest) =
     omega (
       arith,
@@ -133,6 +125,7 @@ few-came runner (e ∷ epochs) (f ∷ floors) (first, began) (one, rest) =
       next-few runner.carries runner.words e f first one,
       sum_by-cons (λ (x : BatchEpoch). length x.clients.items) e epochs,
     )
+few-came runner epochs floors began walked = absurd walked
 
 -- ---- the records
 
@@ -146,17 +139,13 @@ pub record AreMadeOf (carry : Bool) (w m : ℕ) (epochs : List BatchEpoch) (floo
 next-came : (carry : Bool) (words : WordsValue) (m : ℕ) (epoch : BatchEpoch) (floor : QuietValue) → words_before floor.start ≡ words
     → WalkedOn epoch floor → client_count words ≡ m → when carry m ≡ m
     → client_count (next_words carry words floor) ≡ when carry (m + length epoch.clients.items)
-next-came true words m epoch floor began walked count none =
-    walked.came ∙ ap (λ (k : ℕ). k + length epoch.clients.items) (ap client_count began ∙ count)
-next-came false words m epoch floor began walked count none = count ∙ sym none
+next-came carry words m epoch floor began walked count none = let same = ap client_count began in grind arith
 
 when-again : (carry : Bool) (n : ℕ) → when carry (when carry n) ≡ when carry n
-when-again false n = refl
-when-again true n = refl
+when-again carry n = grind arith
 
 pub when-zero : (carry : Bool) → when carry 0 ≡ 0
-when-zero false = refl
-when-zero true = refl
+when-zero carry = grind arith
 
 pub records-made : (carry : Bool) (entries w m : ℕ) (words : WordsValue) (epochs : List BatchEpoch) (floors : List QuietValue)
     (lists : List (List ℕ))
@@ -168,16 +157,12 @@ pub records-made : (carry : Bool) (entries w m : ℕ) (words : WordsValue) (epoc
 unfolding AreOfRunner AreServed AreRecordsOf
 records-made carry entries w m words [] [] [] wide count none narrow come began walked listed =
     record { records = []; served = tt; on = tt; are = tt }
-records-made carry entries w m words [] [] (h ∷ lists) wide count none narrow come began walked listed = absurd listed
-records-made carry entries w m words [] (f ∷ floors) lists wide count none narrow come began walked listed = absurd walked
-records-made carry entries w m words (e ∷ epochs) [] lists wide count none narrow come began walked listed = absurd walked
-records-made carry entries w m words (e ∷ epochs) (f ∷ floors) [] wide count none narrow come began walked listed = absurd listed
 records-made carry entries w m words (e ∷ epochs) (f ∷ floors) (h ∷ lists) wide count none narrow come (first, began) (one, walked)
     (lists_it, listed) =
     let k : ℕ = length e.clients.items in
     let tail : List ℕ = flat_map (λ (list : List ℕ). list) lists in
     let many : length h ≡ k = lists_it.all ∙ one.theirs.as_many in
-    let run : IsRunAfter words e.clients.items f = subst (λ (b : WordsValue). IsRunAfter b e.clients.items f) first one in
+    let run = rw first at one in
     let its : IsMadeOf w m e f h = made-of entries w m e words f h
     (All-head (λ (x : BatchEpoch). MayCome (bounds_of true entries) x.clients.items) e epochs come) wide count narrow run lists_it in
     let others : AreMadeOf carry w (when carry (m + k)) epochs floors tail =
@@ -197,7 +182,7 @@ records-made carry entries w m words (e ∷ epochs) (f ∷ floors) (h ∷ lists)
           counts = its.served.counts;
           holders = its.listed ∙ sym (take_at h tail k many);
         },
-        subst (λ (xs : List ℕ). AreRecordsOf carry w (when carry (m + k)) epochs others.records xs) (sym (drop_at h tail k many))
-            others.are,
+        rw (drop_at h tail k many) others.are,
       );
     }
+records-made carry entries w m words epochs floors lists wide count none narrow come began walked listed = search

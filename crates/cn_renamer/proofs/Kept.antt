@@ -64,16 +64,13 @@ itself-kept w answer showable = record { lines = λ command. refl; showable = sh
 pub is-kept : (old new : Epochs) (command : Command) (answer kept : Answer) → old.core.base ≡ 0 → length old.core.clients ≤ MOST_CLIENTS
     → TakesCommandTo old command answer new → IsWithoutCounts answer kept → IsKept old.core.network.table.width answer kept
 is-kept old new command (Replied reply) kept none few takes same =
-    let w = old.core.network.table.width in subst (IsKept w (Replied reply)) (sym same) (itself-kept w (Replied reply) tt)
+    rw same (itself-kept old.core.network.table.width (Replied reply) tt)
 is-kept old new command (TurnRefused fault) kept none few takes same =
-    let w = old.core.network.table.width in subst (IsKept w (TurnRefused fault)) (sym same) (itself-kept w (TurnRefused fault) tt)
-is-kept old new command (Turned r) (Replied reply) none few takes same = absurd same
-is-kept old new command (Turned r) (TurnRefused fault) none few takes same = absurd same
-is-kept old new (Enter client entry) (Turned r) (Turned kept) none few takes same = absurd takes
-is-kept old new (Step client) (Turned r) (Turned kept) none few takes same = absurd takes
+    rw same (itself-kept old.core.network.table.width (TurnRefused fault) tt)
 is-kept old new Turn (Turned r) (Turned kept) none few (quiet, said, tight, next) same =
     let w = old.core.network.table.width in
     turned-kept w r kept same (subst (λ base. IsTightRecord w base r) none tight) (omega (arith, few, said.clients))
+is-kept old new command answer kept none few takes same = search
 
 -- all that is kept can be shown
 pub all-showable : (w : ℕ) (answers kept : List Answer) → AllZip (IsKept w) answers kept → All (IsShowable w) kept

@@ -1,5 +1,6 @@
 -- The epochs of a batch that were run.
-use Rattle.cn_renamer.proofs.Common.{◌≡◌, ℕ, ◌+◌, ◌<◌, ◌≤◌, All, Bool, true, false, ap, Option, List, [], ◌∷◌, drop, length, take, refl, subst, sym, arith, ◌∙◌, IfSome, AllZip, flat_map, drop_at, length-map, take_at, All-drop, All-head, All-take, All-weaker, sum_by-cons, sum_by-take-drop, when, MOST_CLIENTS, MOST_NAMED, Network, Client, EpochRecord, zero_words, QuietValue, Crew, bounds_of, AreServable, IsBatch, MayCome, clients_of_epochs, records_of, BatchEpoch, AreRecordsOf, HasWritten, Written, known-map, written-map, Description, IsNetworkOf, HaveWalked, IsRunOnFloors, new_runner, IsInOrder, ids_of, text_in, MayRunAll}
+use Rattle.cn_renamer.proofs.Common.{◌≡◌, ℕ, ◌+◌, ◌<◌, ◌≤◌, All, Bool, true, ap, Option, List, [], ◌∷◌, drop, length, take, refl, arith, ◌∙◌, IfSome, AllZip, flat_map, drop_at, length-map, take_at, All-drop, All-head, All-take, All-weaker, sum_by-cons, sum_by-take-drop, when, MOST_NAMED, Network, Client, EpochRecord, zero_words, QuietValue, Crew, bounds_of, AreServable, IsBatch, MayCome, clients_of_epochs, records_of, BatchEpoch, AreRecordsOf, HasWritten, Written, known-map, written-map, Description, IsNetworkOf, HaveWalked, IsRunOnFloors, new_runner, IsInOrder, IsRunInOrder, IsRunInOrderOfKnown, IsRunOf, IsRunOfKnown, ids_of, text_in, MayRunAll}
+use Rattle.cn_renamer.specs.Floors.{IsRunOnFloorsOfKnown}
 use Rattle.cn_floor.proofs.CallerLemmas.{none-came}
 use Rattle.cn_cli.specs.declared.options.Form.{Form}
 use Rattle.cn_renamer.proofs.Floors.{AreMadeOf, records-made, when-zero}
@@ -7,11 +8,7 @@ use Rattle.cn_renamer.proofs.Floors.{AreMadeOf, records-made, when-zero}
 -- what may come within any bounds may come within those of a large batch
 one-comes : (large : Bool) (entries : ℕ) (clients : List Client) → MayCome (bounds_of large entries) clients
     → MayCome (bounds_of true entries) clients
-one-comes true entries clients come = come
-one-comes false entries clients come =
-    let few : length clients ≤ MOST_CLIENTS = come.few in
-    let more : length clients ≤ MOST_NAMED = omega (arith, few) in
-    record { few = more; within = come.within; once = come.once }
+one-comes large entries clients come = grind arith
 
 pub may-come : (large : Bool) (entries : ℕ) (epochs : List BatchEpoch)
     → All (λ (e : BatchEpoch). MayCome (bounds_of large entries) e.clients.items) epochs
@@ -66,8 +63,6 @@ pub in-order : (carry : Bool) (w m : ℕ) (epochs : List BatchEpoch) (records : 
     → holders ≡ flat_map ids_of epochs → AllZip IsInOrder epochs records
 unfolding AreRecordsOf
 in-order carry w m [] [] holders are is = tt
-in-order carry w m [] (r ∷ records) holders are is = absurd are
-in-order carry w m (e ∷ epochs) [] holders are is = absurd are
 in-order carry w m (e ∷ epochs) (r ∷ records) holders (one, rest) is =
     let k : ℕ = length e.clients.items in
     let many : length (ids_of e) ≡ k = length-map e.clients.items (λ (c : Client). c.id) in
@@ -75,9 +70,10 @@ in-order carry w m (e ∷ epochs) (r ∷ records) holders (one, rest) is =
       one.holders ∙ ap (take k) is ∙ take_at (ids_of e) others k many,
       in-order carry w (when carry (m + k)) epochs records (drop k holders) rest (ap (drop k) is ∙ drop_at (ids_of e) others k many),
     )
+in-order carry w m epochs records holders are is = absurd are
 
--- what is written of every list of records of these epochs has each property that follows of a run on these floors, and in
--- order if by one worker with one client in hand
+-- what is written of every list of records of these epochs is the text of a run on these floors, and in order if by one
+-- worker with one client in hand
 pub run-written : {W : Type 0} (contents : W → Option (List ℕ)) (old new : W) (net : Description) (form : Form) (carry large : Bool)
     (network : Network) → IsNetworkOf net network
     → (known : Option (List ℕ)) (epochs : List BatchEpoch)
@@ -87,31 +83,43 @@ pub run-written : {W : Type 0} (contents : W → Option (List ℕ)) (old new : W
     → (written : Written)
     → ((records : List EpochRecord) → AreRecordsOf carry network.table.width 0 epochs records holders
     → HasWritten contents (λ text. text ≡ text_in form network records) written old new)
-    → (Is : List ℕ → List ℕ → Type 0)
-    → ((bytes text : List ℕ) (on : IsRunOnFloors net form carry large floors bytes text)
-    → (crew.workers ≡ 1 → crew.hand ≡ 1 → AllZip IsInOrder on.run.epochs on.run.records) → Is bytes text)
-    → HasWritten contents (λ text. IfSome known (λ bytes. Is bytes text)) written old new
-run-written contents old new net form carry large network built known epochs batch fits crew floors holders walked written writes Is is =
+    → HasWritten contents (IsRunOfKnown net form carry large known) written old new
+    × (crew.workers ≡ 1 → crew.hand ≡ 1
+    → HasWritten contents (IsRunInOrderOfKnown net form carry large known) written old new)
+    × HasWritten contents (IsRunOnFloorsOfKnown net form carry large floors known) written old new
+run-written contents old new net form carry large network built known epochs batch fits crew floors holders walked
+    written writes =
     let w : ℕ = network.table.width in
-    let m : AreMadeOf carry w 0 epochs floors holders =
-    subst (λ (xs : List ℕ). AreMadeOf carry w 0 epochs floors xs) (sym walked.all)
+    let m : AreMadeOf carry w 0 epochs floors holders = rw walked.all
     (records-made carry network.table.entries w 0 (zero_words network) epochs floors walked.lists refl (none-came network.table)
     (when-zero carry)
     built.2.counts.formed.width.1 (may-come large network.table.entries epochs fits.come) walked.began walked.walked walked.listed) in
-    written-map contents (λ text. text ≡ text_in form network m.records) (λ text. IfSome known (λ bytes. Is bytes text)) written old new
-    (λ text same. known-map known (λ bytes. IsBatch (bounds_of large network.table.entries) (records_of bytes) epochs)
-    (λ bytes. Is bytes text)
-    batch (λ bytes it. is bytes text (record {
-      run = record {
-        epochs = epochs;
-        batch = subst (λ (entries : ℕ). IsBatch (bounds_of large entries) (records_of bytes) epochs) built.2.entries it;
-        network = network;
-        built = built;
-        records = m.records;
-        served = m.served;
-        written = same;
-      };
-      began = walked.began;
-      walked = walked.walked;
-      records = m.on;
-    }) (λ worker hand. in-order carry w 0 epochs m.records holders m.are (walked.in_order worker hand)))) (writes m.records m.are)
+    let IsIt : List ℕ → Type 0 = λ bytes. IsBatch (bounds_of large network.table.entries) (records_of bytes) epochs in
+    let IsWhole : List ℕ → Type 0 = λ text. text ≡ text_in form network m.records in
+    let put : (Is : List ℕ → List ℕ → Type 0) → ((bytes text : List ℕ) → IsIt bytes → IsWhole text → Is bytes text)
+    → HasWritten contents (λ text. IfSome known (λ bytes. Is bytes text)) written old new =
+    λ Is is. written-map contents IsWhole (λ text. IfSome known (λ bytes. Is bytes text)) written old new
+    (λ text same. known-map known IsIt (λ bytes. Is bytes text) batch (λ bytes it. is bytes text it same))
+    (writes m.records m.are) in
+    let run : (bytes text : List ℕ) → IsIt bytes → IsWhole text → IsRunOf net form carry large bytes text =
+    λ bytes text it same. record {
+      epochs = epochs;
+      batch = rw built.2.entries at it;
+      network = network;
+      built = built;
+      records = m.records;
+      served = m.served;
+      written = same;
+    } in (
+      put (IsRunOf net form carry large) run,
+      λ worker hand. put (IsRunInOrder net form carry large) (λ bytes text it same. record {
+        run = run bytes text it same;
+        ordered = in-order carry w 0 epochs m.records holders m.are (walked.in_order worker hand);
+      }),
+      put (IsRunOnFloors net form carry large floors) (λ bytes text it same. record {
+        run = run bytes text it same;
+        began = walked.began;
+        walked = walked.walked;
+        records = m.on;
+      }),
+    )

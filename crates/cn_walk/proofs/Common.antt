@@ -1,5 +1,5 @@
 -- What many proofs of this crate import: they import it here.
-pub use Rattle.std.proofs.Common.{All, IfSome, List, None, Option, Some, [], ap, append-nil, ap₂, arith, cond, eqb, get_or, inl, inr, length, map, max, min, refl, rules, subst, suc, sum_by, sym, take, zero, ℕ, ◌%◌, ◌*◌, ◌++◌, ◌+◌, ◌-◌, ◌/◌, ◌<◌, ◌∙◌, ◌∷◌, ◌≡◌, ◌≤◌}
+pub use Rattle.std.proofs.Common.{All, IfSome, List, None, Option, Some, [], add-one, ap, append-nil, ap₂, arith, cond, eqb, get_or, inl, inr, length, length-append, map, max, min, refl, rules, subst, suc, sum_by, sym, take, zero, ℕ, ◌%◌, ◌*◌, ◌++◌, ◌+◌, ◌-◌, ◌/◌, ◌<◌, ◌∙◌, ◌∷◌, ◌≡◌, ◌≤◌}
 pub use Rattle.cn_walk.specs.Walks.{AreFor, AreInOrder, GrantsInOrder, IsSole, Walks, WalksAll, inside_by}
 pub use Rattle.cn_floor.specs.Lane.{FloorValue, IsIdle, LaneValue, LetsIn, empty_lane, with_rooms}
 pub use Rattle.cn_ledger.specs.declared.client.Client.{Client}

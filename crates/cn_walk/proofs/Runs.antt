@@ -1,5 +1,5 @@
 -- A quiet floor on which nobody but these clients walked.
-use Rattle.cn_walk.proofs.Common.{◌≡◌, ℕ, ◌+◌, ◌-◌, ◌*◌, ◌/◌, ◌<◌, List, [], ◌++◌, length, get_or, map, sym, refl, ap, ◌∙◌, subst, arith, div-mul-add, IsEachBelow, shares_after, Agree, times, first-shares, Balancer, Table, sum_at, Yard, tokens_in, Client, Grant, Start, View, WordsValue, client_count, words_before, zero_words, IsMissing, HasNothing, IsReady, first_position, FloorValue, IsIdle, LaneValue, empty_lane, IsRun, IsRunAfter, base, AreFor, AreInOrder, GrantsInOrder, IsSole, WalksAll, count-word, map-same, nobody-in, none-came, none-counted, none-entered}
+use Rattle.cn_walk.proofs.Common.{◌≡◌, ℕ, ◌+◌, ◌-◌, ◌*◌, ◌/◌, ◌<◌, List, [], length, get_or, map, sym, refl, ap, ◌∙◌, arith, div-mul-add, Agree, times, first-shares, Balancer, Table, sum_at, Yard, Client, Start, View, client_count, words_before, zero_words, IsMissing, HasNothing, IsReady, first_position, FloorValue, IsIdle, LaneValue, empty_lane, IsRun, IsRunAfter, AreFor, AreInOrder, GrantsInOrder, IsSole, WalksAll, count-word, map-same, nobody-in, none-came, none-counted, none-entered}
 use Rattle.std.proofs.lemmas.List.Sorted.{IsPermutation-refl}
 use Rattle.cn_tables.specs.Network.{Network}
 use Rattle.cn_floor.specs.Ends.{IsClosedFloor, QuietValue}
@@ -10,18 +10,12 @@ pub all-first : (k w : ℕ) → 0 < w → first_position k w w - first_position 
 all-first k w some =
     let one : w * k / w ≡ k = ap (λ (x : ℕ). x / w) (omega arith) ∙ div-mul-add k w 0 some in
     let none : 0 * k / w ≡ 0 = ap (λ (x : ℕ). x / w) (omega arith) ∙ div-mul-add 0 w 0 some in
-    omega (arith, one, none)
+    omega arith
 
 -- a lane that is new has done nothing
 pub new-nothing : (home : FloorValue) (q : ℕ) (yard : Yard) (a : LaneValue) → a ≡ record (empty_lane home q) { yard = yard }
     → IsIdle home.start.network yard.lists → HasNothing a
-new-nothing home q yard a is idle =
-    subst HasNothing (sym is) (record {
-      inside = ap tokens_in idle ∙ nobody-in (length home.start.network.table.ends);
-      entries = refl;
-      came = refl;
-      grants = refl;
-    })
+new-nothing home q yard a is idle = grind (arith, nobody-in)
 
 -- a lane that has as many grants as the floor may let in misses nothing
 pub none-missing : (start : Start) (v : View) (entered : ℕ) → IsMissing start v entered → length v.grants ≡ start.quota → ⊥
@@ -43,7 +37,7 @@ module _ (q : QuietValue) (clients : List Client) (quiet : IsClosedFloor q.start
         stride = refl;
         let_in = came;
         came = omega (arith, quiet.came, many);
-        counts = quiet.shares ∙ ap (λ (k : ℕ). shares_after (base q.start) k t.width) many;
+        counts = rw many at quiet.shares;
         passes = λ f full is.
             map-same (λ b. get_or q.words (1 + t.entries + b) 0 - get_or q.start.words (1 + t.entries + b) 0)
             (λ b. sum_at t (Balancer b) f - count_in t q.start.words (Balancer b)) 0 t.balancers
@@ -56,7 +50,7 @@ module _ (q : QuietValue) (clients : List Client) (quiet : IsClosedFloor q.start
             let was : get_or q.start.words (1 + t.entries + b) 0 ≡ count_in t q.start.words (Balancer b) =
             sym (count-word t q.start.words (Balancer b) low) in
             λ x. now x - was x);
-        names = subst (λ (n : ℕ). IsEachBelow n (map (λ (g : Grant). g.name) q.did.grants)) many quiet.names;
+        names = rw many at quiet.names;
         named = quiet.named;
         theirs = theirs;
       }
@@ -66,38 +60,30 @@ pub all-theirs : (a b : LaneValue) (clients : List Client) → HasNothing a → 
     → (b.view.entries ≡ map (λ (c : Client). c.entry) clients) × (b.view.came ≡ clients) × AreFor clients b.view.grants
 all-theirs a b clients none is =
     let (more, grants, for) = is.grants in
-    let same : b.view.grants ≡ more = grants ∙ ap (λ (gs : List Grant). gs ++ more) none.grants in (
-      is.entries ∙ ap (λ (es : List ℕ). es ++ map (λ (c : Client). c.entry) clients) none.entries,
-      is.came ∙ ap (λ (cs : List Client). cs ++ clients) none.came,
-      subst (λ (gs : List Grant). AreFor clients gs) (sym same) for,
-    )
+    (rw none.entries at is.entries, rw none.came at is.came, rw (grants, none.grants) for)
 
 -- a floor that its lane closes, after a walk
 pub ran : (q : QuietValue) (start : Start) (a b : LaneValue) (clients : List Client) → q.start ≡ start → IsClosedFloor q.start q.did q.words
     → q.did ≡ b.view → HasNothing a → WalksAll a b clients → IsRunAfter (words_before start) clients q
 ran q start a b clients same quiet did none is =
     let (entries, came, theirs) = all-theirs a b clients none is in
-    subst (λ (s : Start). IsRunAfter (words_before s) clients q) same
-    (run_at q clients quiet (ap (λ (v : View). v.entries) did ∙ entries) (ap (λ (v : View). v.came) did ∙ came)
-    (subst (λ (v : View). AreFor clients v.grants) (sym did) theirs))
+    rw (← same) (run_at q clients quiet (rw did entries) (rw did came) (rw did theirs))
 
 -- after words that are all 0 it is a floor on which nobody else walked
 pub from-zero : (network : Network) (clients : List Client) (q : QuietValue) → IsRunAfter (zero_words network) clients q
     → IsRun network clients q
 from-zero network clients q is =
     let t : Table = network.table in
-    let zero : WordsValue = zero_words network in
-    let nobody : client_count zero ≡ 0 = none-came t in
-    let k : ℕ = length clients in
+    let nobody : client_count (zero_words network) ≡ 0 = none-came t in
     record {
       over = is.over;
       let_in = is.let_in;
-      counts = is.counts
-          ∙ (ap (λ (m : ℕ). shares_after m k t.width) nobody ∙ first-shares k t.width);
+      counts = rw (nobody, first-shares (length clients) t.width) at is.counts;
       passes = λ f full from.
           is.passes f full (λ u l. omega (arith, from u l, none-entered t u))
-          ∙ map-same (λ b. sum_at t (Balancer b) f - count_in t zero.words (Balancer b)) (λ b. sum_at t (Balancer b) f) 0 t.balancers
-          (λ b l h. omega (arith, none-counted t (Balancer b)));
+          ∙ map-same (λ b. sum_at t (Balancer b) f - count_in t (zero_words network).words (Balancer b))
+          (λ b. sum_at t (Balancer b) f) 0
+          t.balancers (λ b l h. omega (arith, none-counted t (Balancer b)));
       names = is.names;
       named = λ j d l. let p = is.named j d l in (p.0, omega (arith, p.1, nobody));
       theirs = is.theirs;
@@ -109,13 +95,9 @@ from-zero network clients q is =
 pub new-sole : (home : FloorValue) (k hand : ℕ) (a : LaneValue) → home.start.quota ≡ k → IsReady home k hand a → IsSole a
 new-sole home k hand a whole ready = record {
   quota = omega (arith, whole, ready.quota, ap (λ (h : FloorValue). h.start.quota) ready.home_is);
-  names = subst (λ (gs : List Grant). IsEachBelow (length gs) (map (λ (g : Grant). g.name) gs)) (sym ready.nothing.grants)
-      (IsPermutation-refl []);
+  names = rw ready.nothing.grants (IsPermutation-refl []);
 }
 
 -- where the lane had nothing, its grants are in order if those of the walk are
 pub all-in-order : (a b : LaneValue) (clients : List Client) → HasNothing a → GrantsInOrder a b clients → AreInOrder 0 clients b.view.grants
-all-in-order a b clients none (more, grants, is) =
-    let same : b.view.grants ≡ more = grants ∙ ap (λ (gs : List Grant). gs ++ more) none.grants in
-    subst (λ (gs : List Grant). AreInOrder 0 clients gs) (sym same)
-    (subst (λ (n : ℕ). AreInOrder n clients more) (ap (λ (gs : List Grant). length gs) none.grants) is)
+all-in-order a b clients none (more, grants, is) = rw (grants, none.grants) (rw none.grants at is)

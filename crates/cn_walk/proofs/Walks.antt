@@ -1,10 +1,15 @@
 -- Walks one after the other, and what one step is to a walk.
-use Rattle.cn_walk.proofs.Common.{◌≡◌, ℕ, ◌+◌, ◌-◌, ◌*◌, ◌%◌, ◌<◌, ◌≤◌, cond, eqb, List, [], ◌∷◌, ◌++◌, length, get_or, map, sum_by, take, Some, sym, refl, ap, ◌∙◌, subst, arith, append-nil, append_assoc, map-append, take_more, sum_by-append, sum_below, when, sum-below-one, sum-below-plus, sum-below-same, sum-below-shift, sum-below-zero, End, Balancer, Exit, IsWellFormed, output_wire, Client, IsThere, Yard, last_on, on, standing, times_in, tokens_in, without, Grant, View, LaneValue, LetsIn, IsNamed, after_enter, after_step, on_in, WalksAll, Walks, inside_by, Lands, at-none, at-one, inside-yard, none-on, ones, weigh-come, weigh-leave, weigh-pass, weighed-went}
+use Rattle.cn_walk.proofs.Common.{◌≡◌, ℕ, ◌+◌, ◌-◌, ◌*◌, ◌%◌, ◌<◌, ◌≤◌, cond, eqb, List, [], ◌∷◌, ◌++◌, length, get_or, sum_by, take, Some, sym, refl, ap, ◌∙◌, arith, append-nil, append_assoc, map-append, take_more, sum_by-append, sum_below, when, sum-below-one, sum-below-plus, sum-below-same, sum-below-shift, sum-below-zero, End, Balancer, Exit, IsWellFormed, LeadsOn, length-append, kin-by, output_wire, Client, IsThere, Yard, last_on, on, standing, times_in, tokens_in, Grant, View, LaneValue, LetsIn, IsNamed, after_enter, after_step, on_in, WalksAll, Walks, inside_by, Lands, at-none, at-one, inside-yard, none-on, ones, weigh-come, weigh-leave, weigh-pass, weighed-went}
+use Rattle.cn_floor.specs.Sweeps.{after_steps}
 use Rattle.std.proofs.lemmas.List.FromFn.{length-map-range_with_len}
 
 -- a bound on the steps that are left to those inside: each step goes to a greater wire, or out
 abbrev pub steps_left : View → ℕ
 steps_left v = sum_below (length v.tokens) (λ u. (length v.tokens - u) * on_in u v)
+
+-- what those weigh who are on a wire, by their clients
+abbrev weight : (ℕ → ℕ) → View → ℕ → ℕ
+weight f v u = sum_by (λ (e : ℕ × ℕ). f e.1) (on v.tokens u)
 
 -- nothing happens
 pub stays : (a : LaneValue) → Walks a a []
@@ -19,28 +24,22 @@ stays a = record {
   grants = ([], sym (append-nil a.view.grants), λ f. omega arith);
 }
 
-pub length-both : {X : Type 0} (us vs : List X) → length (us ++ vs) ≡ length us + length vs
-length-both [] vs = omega arith
-length-both (u ∷ us) vs = omega (arith, length-both us vs)
-
 -- one walk and then another
 pub walks-on : (a b c : LaneValue) (xs ys : List Client) → Walks a b xs → Walks b c ys → Walks a c (xs ++ ys)
 walks-on a b c xs ys p q =
     let (more, grants, even) = p.grants in
     let (later, grants2, even2) = q.grants in
-    let entry : Client → ℕ = λ k. k.entry in
     record {
       home = q.home ∙ p.home;
-      quota = omega (arith, p.quota, q.quota, length-both xs ys);
-      room = omega (arith, p.room, q.room, length-both xs ys);
+      quota = omega (arith, p.quota, q.quota, length-append xs ys);
+      room = omega (arith, p.room, q.room, length-append xs ys);
       records = omega (arith, p.records, q.records);
-      entries = q.entries ∙ ap (λ (es : List ℕ). es ++ map entry ys) p.entries ∙ append_assoc a.view.entries (map entry xs) (map entry ys)
-          ∙ ap (λ (es : List ℕ). a.view.entries ++ es) (sym (map-append entry xs ys));
-      came = q.came ∙ ap (λ (cs : List Client). cs ++ ys) p.came ∙ append_assoc a.view.came xs ys;
+      entries = rw (q.entries, p.entries, map-append, append_assoc);
+      came = rw (q.came, p.came, append_assoc);
       seen = q.seen ∙ p.seen;
       grants = (
         more ++ later,
-        grants2 ∙ ap (λ (gs : List Grant). gs ++ later) grants ∙ append_assoc a.view.grants more later,
+        rw (grants2, grants, append_assoc),
         λ f. omega (
           arith,
           even f,
@@ -66,14 +65,11 @@ came-by : (f : ℕ → ℕ) (token client entry : ℕ) (v : View) → entry < le
 came-by f token client entry v inside =
     let m : ℕ = length v.tokens in
     let w : View = after_enter token client entry v in
-    let weight : ℕ → ℕ = λ u. sum_by (λ (e : ℕ × ℕ). f e.1) (on v.tokens u) in
     let wires : length w.tokens ≡ m = length-map-range_with_len (λ u. on v.tokens u ++ last_on token client entry u) 0 m in
-    let same : sum_below m (λ u. sum_by (λ (e : ℕ × ℕ). f e.1) (on w.tokens u))
-    ≡ sum_below m (λ u. weight u + when (eqb entry u) (f client)) =
-    sum-below-same m (λ u. sum_by (λ (e : ℕ × ℕ). f e.1) (on w.tokens u)) (λ u. weight u + when (eqb entry u) (f client))
+    let same = sum-below-same m (weight f w) (λ u. weight f v u + when (eqb entry u) (f client))
     (λ u l. weigh-come v.tokens token client entry inside u (λ e. f e.1)) in
-    ap (λ (k : ℕ). sum_below k (λ u. sum_by (λ (e : ℕ × ℕ). f e.1) (on w.tokens u))) wires ∙ same
-    ∙ omega (arith, sum-below-plus m weight (λ u. when (eqb entry u) (f client)), sum-below-one m entry (f client) inside)
+    let plus = sum-below-plus m (weight f v) (λ u. when (eqb entry u) (f client)) in
+    ap (λ (k : ℕ). sum_below k (weight f w)) wires ∙ same ∙ omega (arith, plus, sum-below-one m entry (f client) inside)
 
 pub comes : (a b : LaneValue) (token client entry : ℕ) → IsWellFormed a.home.start.network.table → IsHeld a → 0 < a.view.quota
     → entry < a.home.start.network.table.entries → LetsIn a b token client entry
@@ -113,76 +109,72 @@ names-one a b client entry name is before after = record {
 pub comes-next : (a b c : LaneValue) (i : ℕ) (d : Client) (xs : List Client) → i < length xs → Walks a b (take i xs)
     → Walks b c (record { id = (get_or xs i d).id; entry = (get_or xs i d).entry } ∷ []) → Walks a c (take (i + 1) xs)
 comes-next a b c i d xs l p is =
-    subst (λ (ys : List Client). Walks a c ys) (sym (take_more xs i d l)) (walks-on a b c (take i xs) (get_or xs i d ∷ []) p is)
+    rw (take_more xs i d l) (walks-on a b c (take i xs) (get_or xs i d ∷ []) p is)
 
 -- ---- a token goes on
 
-module _ (token client wire n : ℕ) (v : View) (is : IsThere v.tokens token client wire) (f : ℕ → ℕ) where
+-- what a client weighs that leaves by an end
+abbrev pub out-by : (ℕ → ℕ) → End → ℕ × ℕ → ℕ
+out-by f (Balancer b) = λ e. 0
+out-by f (Exit i) = λ e. f e.1
+
+module _ (token client wire n : ℕ) (v : View) (is : IsThere v.tokens token client wire) where
   long : (end : End) → length (after_step token client end n v).tokens ≡ length v.tokens
-  long (Balancer b) = length-map-range_with_len
-      (λ u. without token (get_or v.tokens u []) ++ last_on token client (output_wire v.start.network.table b (n % 2)) u) 0
-      (length v.tokens)
-  long (Exit i) = length-map-range_with_len (λ u. without token (get_or v.tokens u []) ++ []) 0 (length v.tokens)
+  unfolding after_steps
+  long end = (kin-by end n ((token, client) ∷ []) v).wires
 
-  pub passed_by : (b : ℕ) → Lands n v (Balancer b) → inside_by f (after_step token client (Balancer b) n v) ≡ inside_by f v
-  passed_by b lands =
+  shifted : (f : ℕ → ℕ) (end : End) (onto : ℕ → ℕ)
+      → ((u : ℕ) → weight f (after_step token client end n v) u + when (eqb wire u) (f client) ≡ weight f v u + onto u)
+      → inside_by f (after_step token client end n v) + f client ≡ inside_by f v + sum_below (length v.tokens) onto
+  shifted f end onto each =
       let m : ℕ = length v.tokens in
-      let w : View = after_step token client (Balancer b) n v in
+      let w : View = after_step token client end n v in
+      let moved = sum-below-shift m (weight f w) (λ u. when (eqb wire u) (f client)) (weight f v) onto
+      (λ u l. each u) in
+      let one = sum-below-one m wire (f client) is.inside in
+      omega (arith, ap (λ (k : ℕ). sum_below k (weight f w)) (long end))
+
+  -- nobody is lost or made
+  pub went-by : (f : ℕ → ℕ) (end : End) → Lands n v end
+      → inside_by f (after_step token client end n v) + out-by f end (token, client) ≡ inside_by f v
+  went-by f (Balancer b) lands =
       let to : ℕ = output_wire v.start.network.table b (n % 2) in
-      let moved = sum-below-shift m (λ u. sum_by (λ (e : ℕ × ℕ). f e.1) (on w.tokens u)) (λ u. when (eqb wire u) (f client))
-      (λ u. sum_by (λ (e : ℕ × ℕ). f e.1) (on v.tokens u)) (λ u. when (eqb to u) (f client))
-      (λ u l. weigh-pass v.tokens token client wire to is lands u (λ e. f e.1)) in
-      ap (λ (k : ℕ). sum_below k (λ u. sum_by (λ (e : ℕ × ℕ). f e.1) (on w.tokens u))) (long (Balancer b))
-      ∙ omega (arith, moved, sum-below-one m wire (f client) is.inside, sum-below-one m to (f client) lands)
+      let moved = shifted f (Balancer b) (λ u. when (eqb to u) (f client))
+      (λ u. weigh-pass v.tokens token client wire to is lands u (λ e. f e.1)) in
+      omega (arith, moved, sum-below-one (length v.tokens) to (f client) lands)
+  went-by f (Exit i) lands =
+      let moved = shifted f (Exit i) (λ u. 0)
+      (λ u. omega (arith, weigh-leave v.tokens token client wire is u (λ e. f e.1))) in
+      omega (arith, moved, sum-below-zero (length v.tokens) (λ _. 0) (λ _. refl))
 
-  pub left_by : (i : ℕ) → inside_by f (after_step token client (Exit i) n v) + f client ≡ inside_by f v
-  left_by i =
-      let m : ℕ = length v.tokens in
-      let w : View = after_step token client (Exit i) n v in
-      let moved = sum-below-shift m (λ u. sum_by (λ (e : ℕ × ℕ). f e.1) (on w.tokens u)) (λ u. when (eqb wire u) (f client))
-      (λ u. sum_by (λ (e : ℕ × ℕ). f e.1) (on v.tokens u)) (λ u. 0)
-      (λ u l. omega (arith, weigh-leave v.tokens token client wire is u (λ e. f e.1))) in
-      let same = ap (λ (k : ℕ). sum_below k (λ u. sum_by (λ (e : ℕ × ℕ). f e.1) (on w.tokens u))) (long (Exit i)) in
-      omega (arith, same, moved, sum-below-one m wire (f client) is.inside, sum-below-zero m (λ _. 0) (λ _. refl))
+  -- how much less is left
+  abbrev g : ℕ → ℕ
+  g u = length v.tokens - u
 
--- how much less is left
-module _ (token client wire n : ℕ) (v : View) (is : IsThere v.tokens token client wire) (there : wire < length v.start.network.table.ends)
-  where
-    abbrev g : ℕ → ℕ
-    g u = length v.tokens - u
+  left : (end : End) → sum_below (length (after_step token client end n v).tokens)
+      (λ u. g u * on_in u (after_step token client end n v))
+      ≡ steps_left (after_step token client end n v)
+  left end =
+      let w : View = after_step token client end n v in
+      ap (λ (k : ℕ). sum_below (length w.tokens) (λ u. (k - u) * on_in u w)) (sym (long end))
 
-    left : (end : End) → sum_below (length (after_step token client end n v).tokens) (λ u. g u * on_in u (after_step token client end n v))
-        ≡ steps_left (after_step token client end n v)
-    left end =
-        let w : View = after_step token client end n v in
-        ap (λ (k : ℕ). sum_below (length w.tokens) (λ u. (k - u) * on_in u w)) (sym (long token client wire n v is (λ _. 0) end))
-
-    pub less-passed : (b : ℕ) → Lands n v (Balancer b) → wire < output_wire v.start.network.table b (n % 2)
-        → steps_left (after_step token client (Balancer b) n v) < steps_left v
-    less-passed b lands on =
-        omega (
-          arith,
-          left (Balancer b),
-          weighed-went v.start.network token client wire n v is there refl g (Balancer b) lands,
-          at-one (length v.tokens) (output_wire v.start.network.table b (n % 2)) g lands,
-        )
-
-    pub less-left : (i : ℕ) → steps_left (after_step token client (Exit i) n v) < steps_left v
-    less-left i =
-        omega (
-          arith,
-          left (Exit i),
-          weighed-went v.start.network token client wire n v is there refl g (Exit i) tt,
-          at-none (length v.tokens) g,
-          is.inside,
-        )
+  pub less-went : wire < length v.start.network.table.ends → (end : End) → Lands n v end
+      → LeadsOn v.start.network.table wire end
+      → steps_left (after_step token client end n v) < steps_left v
+  less-went there (Balancer b) lands on =
+      let went = weighed-went v.start.network token client wire n v is there refl g (Balancer b) lands in
+      let one = at-one (length v.tokens) (output_wire v.start.network.table b (n % 2)) g lands in
+      omega (arith, left (Balancer b))
+  less-went there (Exit i) lands on =
+      let went = weighed-went v.start.network token client wire n v is there refl g (Exit i) tt in
+      omega (arith, left (Exit i), went, at-none (length v.tokens) g, is.inside)
 
 -- ---- whole walks
 
 -- where no token stands, nobody weighs anything
 pub none_by : (a : LaneValue) → IsHeld a → tokens_in a.yard.lists ≡ 0 → (f : ℕ → ℕ) → inside_by f a.view ≡ 0
 none_by a held none f =
-    sum-below-zero (length a.view.tokens) (λ u. sum_by (λ (e : ℕ × ℕ). f e.1) (on a.view.tokens u))
+    sum-below-zero (length a.view.tokens) (weight f a.view)
     (λ u. empty-by (on a.view.tokens u) (none-on a.view (inside-yard a.yard a.view held.tokens ∙ none) u))
   where
     empty-by : (es : List (ℕ × ℕ)) → length es ≡ 0 → sum_by (λ (e : ℕ × ℕ). f e.1) es ≡ 0
@@ -213,8 +205,3 @@ walked a b xs w out before after =
         },
       );
     }
-
--- a list without members
-pub none_left : {X : Type 0} (xs : List X) → length xs ≡ 0 → xs ≡ []
-none_left [] h = refl
-none_left (x ∷ xs) h = absurd (omega arith)

@@ -34,6 +34,14 @@ fn first_position(clients: u32, workers: u32, worker: u32) -> u32
     (u64::from(worker) * u64::from(clients) / u64::from(workers)) as u32
 }
 
+/// The first worker of the second of two parts, which has about a quarter of the workers.
+fn cut(from: u32, to: u32) -> u32
+    requires { from + 2 ≤ to }
+    ensures { (from < result) × (result < to) }
+{
+    to - 1 - (to - from - 2) / 4
+}
+
 /// Makes the lanes of the crew's workers from `from` up to, not including, `to`, out of one, and reserves their memory:
 /// each has quota and room for its own clients, and records for a hand of them, or as many as the one had, and of a
 /// fork's two parts the first has room for the grants of both. The second part has about a quarter of the workers, and
@@ -68,7 +76,7 @@ pub(crate) fn make_lanes<'a>(
     if own == 0 || to - from == 1 {
         return Some(Lanes::One(lane, from));
     }
-    let middle = to - 1 - (to - from - 2) / 4;
+    let middle = cut(from, to);
     let at = first_position(clients, crew.workers, middle) - first;
     if at == 0 {
         return make_lanes(alloc, floor, lane, clients, crew, middle, to);

@@ -1,4 +1,4 @@
-use Rattle.cn_walk.proofs.Common.{rules, ◌≡◌, ◌<◌, All, ℕ, List, get_or, ◌∙◌, subst, get_or_default, take_all, All-more, Client}
+use Rattle.cn_walk.proofs.Common.{rules, ◌<◌, get_or, get_or_default, take_all, All-more, Client}
 use Rattle.cn_walk.proofs.running.may_run.Goals as goal
 
 pub loop-position-preserved : goal.loop-position-preserved
@@ -11,14 +11,9 @@ loop-position-preserved c =
 pub returns-clause-allowed : goal.returns-clause-allowed
 returns-clause-allowed c =
     let whole = take_all c.loop-position.position c.args.clients.now (search rules) in
-    let entries : c.from-entries.result ≡ c.args.network.now.table.entries = c.from-entries.ensures ∙ c.entries.ensures.value in
     record {
       workers_fit = search rules;
       hand_fits = search rules;
       few = search rules;
-      by_entries = subst (λ (n : ℕ). All (λ (k : Client). k.entry < n) c.args.clients.now) entries
-          (subst (λ (ks : List Client). All (λ (k : Client). k.entry < c.from-entries.result) ks) whole c.loop-position.invariant);
+      by_entries = rw (whole, c.from-entries.ensures, c.entries.ensures.value) at c.loop-position.invariant;
     }
-
-pub returns-then-hand-eq0-clause-refused : goal.returns-then-hand-eq0-clause-refused
-returns-then-hand-eq0-clause-refused c = search rules

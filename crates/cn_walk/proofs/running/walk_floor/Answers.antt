@@ -1,5 +1,4 @@
-use Rattle.cn_walk.proofs.Common.{rules, ℕ, arith, length, subst, sym, IsCloseRefused, AreReady, whole, View, AreInOrder}
-use Rattle.cn_floor.specs.declared.floor.closing.CloseFault.{CloseFault}
+use Rattle.cn_walk.proofs.Common.{rules, ℕ, arith, length, whole}
 use Rattle.cn_walk.proofs.Parts.{one-worker, whole-ready}
 use Rattle.cn_walk.proofs.Runs.{all-first, all-in-order, all-theirs, new-nothing, new-sole, none-missing, ran}
 use Rattle.cn_walk.proofs.running.walk_floor.Goals as goal
@@ -9,26 +8,22 @@ make_lanes-requires-clause-nothing g c = new-nothing _ _ _ _ c.requires.lane c.r
 
 pub walk_lanes-lane-requires-clause-ready : goal.walk_lanes-lane-requires-clause-ready
 walk_lanes-lane-requires-clause-ready g c κs within =
-    subst (λ (n : ℕ). AreReady c.args.floor n c.args.crew.hand c.in-Some.lanes)
-    (all-first (length c.args.clients.now) c.args.crew.workers (search rules)) c.in-Some.ensures.ready
+    rw (all-first (length c.args.clients.now) c.args.crew.workers (search rules)) at c.in-Some.ensures.ready
 
 pub unreachable-requires-in-Err-LanesMissing : goal.unreachable-requires-in-Err-LanesMissing
 unreachable-requires-in-Err-LanesMissing g c =
     let k : ℕ = length c.args.clients.now in
-    let ready = subst (λ (n : ℕ). AreReady c.args.floor n c.args.crew.hand c.in-Some.lanes) (all-first k c.args.crew.workers (search rules))
-    c.in-Some.ensures.ready in
+    let ready = rw (all-first k c.args.crew.workers (search rules)) at c.in-Some.ensures.ready in
     let none = (whole-ready c.args.floor k c.args.crew.hand c.in-Some.lanes ready).nothing in
     let theirs = (all-theirs (whole c.in-Some.lanes) c.walk_lanes-lane.result c.args.clients.now none c.walk_lanes-lane.ensures.walked).2 in
-    let why = subst (λ (f : CloseFault). IsCloseRefused c.args.floor c.walk_lanes-lane.result f) c.in-Err-LanesMissing.field-0-is
-    c.in-Err-LanesMissing.ensures.refused in
+    let why = rw c.in-Err-LanesMissing.field-0-is at c.in-Err-LanesMissing.ensures.refused in
     none-missing c.args.floor.start c.walk_lanes-lane.result.view c.in-Err-LanesMissing._entered why.3
     (omega (arith, theirs.as_many, c.requires.quota))
 
 pub returns-in-Ok-clause-run : goal.returns-in-Ok-clause-run
 returns-in-Ok-clause-run g c =
     let k : ℕ = length c.args.clients.now in
-    let ready = subst (λ (n : ℕ). AreReady c.args.floor n c.args.crew.hand c.in-Some.lanes) (all-first k c.args.crew.workers (search rules))
-    c.in-Some.ensures.ready in
+    let ready = rw (all-first k c.args.crew.workers (search rules)) at c.in-Some.ensures.ready in
     let none = (whole-ready c.args.floor k c.args.crew.hand c.in-Some.lanes ready).nothing in
     let quiet = c.in-Ok.ensures.closed in
     ran c.in-Ok.closed c.args.floor.start (whole c.in-Some.lanes) c.walk_lanes-lane.result c.args.clients.now quiet.0
@@ -38,10 +33,9 @@ pub returns-in-Ok-clause-in_order : goal.returns-in-Ok-clause-in_order
 returns-in-Ok-clause-in_order g c worker hand =
     let k : ℕ = length c.args.clients.now in
     let ready = whole-ready c.args.floor k c.args.crew.hand c.in-Some.lanes
-    (subst (λ (n : ℕ). AreReady c.args.floor n c.args.crew.hand c.in-Some.lanes) (all-first k c.args.crew.workers (search rules))
-    c.in-Some.ensures.ready) in
+    (rw (all-first k c.args.crew.workers (search rules)) at c.in-Some.ensures.ready) in
     let single = one-worker k c.args.crew.workers 0 c.args.crew.workers c.in-Some.lanes (omega (arith, worker)) c.in-Some.ensures.workers in
     let order = c.walk_lanes-lane.ensures.in_order hand single
     (new-sole c.args.floor k c.args.crew.hand (whole c.in-Some.lanes) c.requires.quota ready) in
-    subst (λ (v : View). AreInOrder 0 c.args.clients.now v.grants) (sym c.in-Ok.ensures.closed.1)
-    (all-in-order (whole c.in-Some.lanes) c.walk_lanes-lane.result c.args.clients.now ready.nothing order)
+    rw c.in-Ok.ensures.closed.1 (all-in-order (whole c.in-Some.lanes) c.walk_lanes-lane.result c.args.clients.now
+    ready.nothing order)

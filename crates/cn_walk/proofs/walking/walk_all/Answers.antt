@@ -1,5 +1,6 @@
-use Rattle.cn_walk.proofs.Common.{rules, ◌≡◌, ◌<◌, [], All, List, sym, ◌∙◌, subst, arith, All-drop, Client, Walks}
-use Rattle.cn_walk.proofs.Walks.{IsHeld, none_by, none_left, stays, walked, walks-on}
+use Rattle.cn_walk.proofs.Common.{rules, ◌<◌, [], ◌∙◌, arith, All-drop, Client}
+use Rattle.cn_walk.proofs.Walks.{IsHeld, none_by, stays, walked, walks-on}
+use Rattle.std.proofs.lemmas.List.{nil_from_length}
 use Rattle.cn_walk.proofs.walking.walk_all.Goals as goal
 
 pub loop-rest-preserved : goal.loop-rest-preserved
@@ -13,24 +14,17 @@ loop-rest-preserved g c =
       home = out.walked.home ∙ came.walked.home ∙ was.home;
       out = out.out;
       nobody = out.nobody;
-      entries = subst (λ (xs : List Client). All inside xs) (sym cut.back) (All-drop inside c.min.result c.loop-rest.rest.now was.entries);
+      entries = rw cut.back (All-drop inside c.min.result c.loop-rest.rest.now was.entries);
       quota = omega (arith, was.quota, came.walked.quota, out.walked.quota, cut.front_len, cut.back_len);
       room = omega (arith, was.room, came.walked.room, out.walked.room, cut.front_len, cut.back_len);
       spare = omega (arith, was.spare, was.out, came.walked.records, out.walked.records, out.out, cut.front_len, cut.back_len);
-      walks = λ last w. was.walks last (subst (λ (xs : List Client). Walks c.loop-rest.lane last xs) (sym cut.by_index.0)
-          (walks-on _ _ _ _ _ came.walked (walks-on _ _ _ [] _ out.walked w)));
+      walks = λ last w. was.walks last
+          (rw cut.by_index.0 (walks-on _ _ _ _ _ came.walked (walks-on _ _ _ [] _ out.walked w)));
     }
 
 pub loop-rest-init : goal.loop-rest-init
 loop-rest-init g c =
-    let laws = c.lane_laws.ensures in
-    let held : IsHeld c.args.lane = record {
-      start = laws.start;
-      tokens = laws.tokens;
-      wires = laws.wires;
-      once = laws.once;
-      there = laws.there;
-    } in
+    let held : IsHeld c.args.lane = assumption c.lane_laws.ensures in
     record {
       home = c.requires.own;
       out = c.requires.out;
@@ -44,17 +38,9 @@ loop-rest-init g c =
 
 pub returns-clause-walked : goal.returns-clause-walked
 returns-clause-walked g c =
-    let laws = c.lane_laws.ensures in
-    let held : IsHeld c.args.lane = record {
-      start = laws.start;
-      tokens = laws.tokens;
-      wires = laws.wires;
-      once = laws.once;
-      there = laws.there;
-    } in
+    let held : IsHeld c.args.lane = assumption c.lane_laws.ensures in
     let was = c.loop-rest.invariant in
-    let none : c.loop-rest.rest.now ≡ [] = none_left c.loop-rest.rest.now (search rules) in
+    let none = nil_from_length c.loop-rest.rest.now (search rules) in
     walked c.args.lane c.loop-rest.lane c.args.clients.now
-    (was.walks c.loop-rest.lane (subst (λ (xs : List Client). Walks c.loop-rest.lane c.loop-rest.lane xs) (sym none)
-    (stays c.loop-rest.lane))) was.out
+    (was.walks c.loop-rest.lane (rw none (stays c.loop-rest.lane))) was.out
     (none_by c.args.lane held c.requires.out) was.nobody

@@ -1,13 +1,12 @@
-use Rattle.cn_walk.proofs.Common.{rules, ◌≡◌, ◌∙◌, List, take, ap, subst, take_all, Client, Lists, Yard, tokens_in, FloorValue, LaneValue, GrantsInOrder, Walks}
+use Rattle.cn_walk.proofs.Common.{rules, ◌≡◌, ◌∙◌, take, ap, take_all, tokens_in, FloorValue, LaneValue}
 use Rattle.cn_walk.proofs.Ordered.{next-in-list, next-in-order, none-in-order}
 use Rattle.cn_walk.proofs.Walks.{IsHeld, comes-next, names-one, none_by, stays, walked}
 use Rattle.cn_walk.proofs.walking.walk_each.Goals as goal
 
 pub loop-client-init : goal.loop-client-init
 loop-client-init g c =
-    let laws = c.lane_laws.ensures in
     record {
-      held = record { start = laws.start; tokens = laws.tokens; wires = laws.wires; once = laws.once; there = laws.there };
+      held = assumption c.lane_laws.ensures;
       out = c.requires.out;
       walks = stays c.args.lane;
       ordered = λ sole. (sole, none-in-order c.args.lane);
@@ -19,9 +18,8 @@ loop-client-preserved g c =
     let laws = c.lane_laws-in-loop-client.ensures in
     let named = c.walk_one-name.ensures in
     let b : LaneValue = c.walk_one-name.new.lane in
-    let held : IsHeld b = record
-    { start = laws.start; tokens = laws.tokens; wires = laws.wires; once = laws.once; there = laws.there } in
-    let out : tokens_in b.yard.lists ≡ 0 = ap (λ (y : Yard). tokens_in y.lists) named.yard ∙ was.out in
+    let held : IsHeld b = assumption laws in
+    let out : tokens_in b.yard.lists ≡ 0 = rw named.yard was.out in
     let home = ap (λ (h : FloorValue). h.start) (was.walks.home ∙ c.requires.own) in
     record {
       held = held;
@@ -31,22 +29,19 @@ loop-client-preserved g c =
       ordered = λ sole.
           let (here, before) = was.ordered sole in
           let next = next-in-order c.args.floor.now.start _ b _ _ _ c.start_laws.ensures home named
-          (subst (λ (ls : Lists). tokens_in ls ≡ 0) laws.tokens out) here in
+          (rw laws.tokens at out) here in
           (next.0, next-in-list c.args.lane c.loop-client.lane b _ (record { id = 0; entry = 0 }) _ c.loop-client-test.true before next.1);
     }
 
 pub returns-clause-walked : goal.returns-clause-walked
 returns-clause-walked g c =
-    let laws = c.lane_laws.ensures in
     let was = c.loop-client.invariant in
-    let held : IsHeld c.args.lane = record
-    { start = laws.start; tokens = laws.tokens; wires = laws.wires; once = laws.once; there = laws.there } in
+    let held : IsHeld c.args.lane = assumption c.lane_laws.ensures in
     let whole : take c.loop-client.client-index c.args.clients.now ≡ c.args.clients.now = take_all _ _ (search rules) in
-    walked c.args.lane c.loop-client.lane c.args.clients.now
-    (subst (λ (xs : List Client). Walks c.args.lane c.loop-client.lane xs) whole was.walks) was.out
+    walked c.args.lane c.loop-client.lane c.args.clients.now (rw whole at was.walks) was.out
     (none_by c.args.lane held c.requires.out) (none_by c.loop-client.lane was.held was.out)
 
 pub returns-clause-in_order : goal.returns-clause-in_order
 returns-clause-in_order g c sole =
     let whole : take c.loop-client.client-index c.args.clients.now ≡ c.args.clients.now = take_all _ _ (search rules) in
-    subst (λ (xs : List Client). GrantsInOrder c.args.lane c.loop-client.lane xs) whole (c.loop-client.invariant.ordered sole).1
+    rw whole at ((c.loop-client.invariant.ordered sole).1)

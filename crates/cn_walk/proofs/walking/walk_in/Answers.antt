@@ -1,4 +1,4 @@
-use Rattle.cn_walk.proofs.Common.{rules, ◌<◌, ◌∙◌, ap, subst, sym, arith, IsWellFormed, FloorValue}
+use Rattle.cn_walk.proofs.Common.{rules, ◌<◌, ◌∙◌, ap, arith, IsWellFormed, FloorValue}
 use Rattle.cn_walk.proofs.Walks.{IsHeld, comes, comes-next, stays}
 use Rattle.cn_walk.proofs.walking.walk_in.Goals as goal
 
@@ -7,14 +7,11 @@ loop-client-init g c = record { walks = stays c.args.lane.now; spare = omega (ar
 
 pub loop-client-preserved : goal.loop-client-preserved
 loop-client-preserved g c =
-    let laws = c.lane_laws.ensures in
     let was = c.loop-client.invariant in
-    let held : IsHeld c.loop-client.lane = record
-    { start = laws.start; tokens = laws.tokens; wires = laws.wires; once = laws.once; there = laws.there } in
+    let held : IsHeld c.loop-client.lane = assumption c.lane_laws.ensures in
     let home = ap (λ (h : FloorValue). h.start.network.table.entries) (was.walks.home ∙ c.requires.own) in
     let formed : IsWellFormed c.loop-client.lane.home.start.network.table =
-    subst (λ (h : FloorValue). IsWellFormed h.start.network.table) (sym (was.walks.home ∙ c.requires.own))
-    c.start_laws.ensures.network.formed in
+    rw (was.walks.home, c.requires.own) c.start_laws.ensures.network.formed in
     let some : 0 < c.loop-client.lane.view.quota = search rules in
     let came = c.in-Ok.ensures.ok in
     record {

@@ -1,4 +1,4 @@
-use Rattle.cn_epoch.proofs.Common.{rules, arith, ◌≡◌, ◌++◌, ◌∷◌, [], drop, append-nil, append_assoc, refl, ◌∙◌, common_steps, Enter}
+use Rattle.cn_epoch.proofs.Common.{rules, arith, ◌≡◌, ◌∷◌, [], drop, append-nil, append_assoc, refl, ◌∙◌, common_steps, Enter}
 use Rattle.cn_epoch.proofs.Answering.{runs_to-at, runs-at, runs-none}
 use Rattle.cn_epoch.proofs.epochs.Epochs.run.Goals as goal
 
@@ -23,15 +23,13 @@ loop-command-preserved c = record {
   carries = c.answer-answer.ensures.carries ∙ c.loop-command.invariant.carries;
   came = let before = c.loop-command.invariant.came in let more = c.answer-answer.ensures.came in omega arith;
   events = λ rest new runs.
-      let joined : c.push_reserved.new.self.items ++ rest ≡ c.loop-command.answers.items ++ (c.answer-answer.result ∷ rest) =
-      rw (c.push_reserved.ensures.items, append_assoc) refl in
-      rw joined (c.loop-command.invariant.events (c.answer-answer.result ∷ rest) new
+      rw (c.push_reserved.ensures.items, append_assoc)
+      (c.loop-command.invariant.events (c.answer-answer.result ∷ rest) new
       (runs_to-at c.loop-command.self c.answer-answer.new.self new c.args.commands.now c.loop-command.command-index (Enter 0 0)
       c.answer-answer.result rest c.loop-command-test.true c.answer-answer.ensures.event runs));
   rest = λ rest new runs.
-      let joined : c.push_reserved.new.self.items ++ rest ≡ c.loop-command.answers.items ++ (c.answer-answer.result ∷ rest) =
-      rw (c.push_reserved.ensures.items, append_assoc) refl in
-      rw joined (c.loop-command.invariant.rest (c.answer-answer.result ∷ rest) new
+      rw (c.push_reserved.ensures.items, append_assoc)
+      (c.loop-command.invariant.rest (c.answer-answer.result ∷ rest) new
       (runs-at c.loop-command.self c.answer-answer.new.self new c.args.commands.now c.loop-command.command-index (Enter 0 0)
       c.answer-answer.result rest c.loop-command-test.true c.answer-answer.ensures.history c.answer-answer.ensures.network runs));
 }
@@ -39,11 +37,9 @@ loop-command-preserved c = record {
 pub returns-clause-events : goal.returns-clause-events
 returns-clause-events c =
     let done : drop c.loop-command.command-index c.args.commands.now ≡ [] = grind (arith, common_steps) in
-    let whole = c.loop-command.invariant.events [] c.loop-command.self (rw done refl) in
-    rw append-nil at whole
+    rw append-nil at (c.loop-command.invariant.events [] c.loop-command.self (rw done refl))
 
 pub returns-clause-history : goal.returns-clause-history
 returns-clause-history c =
     let done : drop c.loop-command.command-index c.args.commands.now ≡ [] = grind (arith, common_steps) in
-    let whole = c.loop-command.invariant.rest [] c.loop-command.self (rw done (runs-none c.loop-command.self)) in
-    rw append-nil at whole
+    rw append-nil at (c.loop-command.invariant.rest [] c.loop-command.self (rw done (runs-none c.loop-command.self)))
