@@ -26,50 +26,43 @@ module _ (start : Start) (wire : ℕ) (end : End) (formed : IsWellFormed start.n
   goes-there v token client rest may = first-there v.tokens token client wire rest may.once (omega (arith, low, may.wires)) may.on_wire
 
   -- once the first has gone
-  gone-on : (b n : ℕ) → end ≡ Balancer b → (v : View) (token client : ℕ) (rest : List (ℕ × ℕ)) → MayGo v ((token, client) ∷ rest)
-      → MayGo (after_step token client (Balancer b) n v) rest
-  gone-on b n is v token client rest may =
-      let to : ℕ = output_wire v.start.network.table b (n % 2) in
-      let same : to ≡ output_wire t b (n % 2) = ap (λ (s : Start). output_wire s.network.table b (n % 2)) may.of in
-      let two = mod_below n 2 (omega arith) in
-      let forward : wire < t.entries + 2 * b = subst (LeadsOn t wire) (ends ∙ is) (formed.forward wire low) in
-      let there : b < t.balancers = subst (Stands t) is stands in
-      let inside : wire < length v.tokens = omega (arith, low, may.wires) in
-      let lands : to < length v.tokens = omega (arith, same, there, formed.wires, may.wires) in
-      let lists = lists-after-on v.tokens token (last_on token client to)
-      (λ u past. rw (ne_eqb to u (λ e. omega (arith, e, past, lands))) refl) in
-      let long = length-map-range_with_len (λ u. without token (on v.tokens u) ++ last_on token client to u) 0 (length v.tokens) in
-      let none : last_on token client to wire ≡ [] = rw (ne_eqb to wire (λ e. omega (arith, e, same, forward))) refl in
-      record {
-        on_wire = lists wire ∙ (λ i. rest-on v.tokens token client wire rest may.once inside may.on_wire i ++ none i) ∙ append-nil rest;
-        once = λ k. once-moved v.tokens token client wire rest may.once inside may.on_wire (after_step token client (Balancer b) n v).tokens
-            long k to lands lists;
-        wires = long ∙ may.wires;
-        of = may.of;
-      }
-
-  gone-out : (i n : ℕ) (v : View) (token client : ℕ) (rest : List (ℕ × ℕ)) → MayGo v ((token, client) ∷ rest)
-      → MayGo (after_step token client (Exit i) n v) rest
-  gone-out i n v token client rest may =
-      let inside : wire < length v.tokens = omega (arith, low, may.wires) in
-      let lists : (u : ℕ) → on (lists_after token (λ _. []) v.tokens) u ≡ without token (on v.tokens u) =
-      λ u. lists-after-on v.tokens token (λ _. []) (λ _ _. refl) u ∙ append-nil (without token (on v.tokens u)) in
-      let long = length-map-range_with_len (λ u. without token (on v.tokens u) ++ []) 0 (length v.tokens) in
-      record {
-        on_wire = lists wire ∙ rest-on v.tokens token client wire rest may.once inside may.on_wire;
-        once = λ k. once-gone v.tokens token client wire rest may.once inside may.on_wire (after_step token client (Exit i) n v).tokens long
-            k lists;
-        wires = long ∙ may.wires;
-        of = may.of;
-      }
-
   pub rest-may : (n : ℕ) (v : View) (token client : ℕ) (rest : List (ℕ × ℕ)) → MayGo v ((token, client) ∷ rest)
       → MayGo (after_step token client end n v) rest
   rest-may n v token client rest may = by end refl
     where
+      inside : wire < length v.tokens
+      inside = omega (arith, low, may.wires)
+
       by : (e : End) → end ≡ e → MayGo (after_step token client e n v) rest
-      by (Balancer b) is = gone-on b n is v token client rest may
-      by (Exit i) is = gone-out i n v token client rest may
+      by (Balancer b) is =
+          let to : ℕ = output_wire v.start.network.table b (n % 2) in
+          let same : to ≡ output_wire t b (n % 2) = ap (λ (s : Start). output_wire s.network.table b (n % 2)) may.of in
+          let two = mod_below n 2 (omega arith) in
+          let forward : wire < t.entries + 2 * b = subst (LeadsOn t wire) (ends ∙ is) (formed.forward wire low) in
+          let there : b < t.balancers = subst (Stands t) is stands in
+          let lands : to < length v.tokens = omega (arith, same, there, formed.wires, may.wires) in
+          let lists = lists-after-on v.tokens token (last_on token client to)
+          (λ u past. rw (ne_eqb to u (λ e. omega (arith, e, past, lands))) refl) in
+          let long = length-map-range_with_len (λ u. without token (on v.tokens u) ++ last_on token client to u) 0 (length v.tokens) in
+          let none : last_on token client to wire ≡ [] = rw (ne_eqb to wire (λ e. omega (arith, e, same, forward))) refl in
+          record {
+            on_wire = lists wire ∙ (λ i. rest-on v.tokens token client wire rest may.once inside may.on_wire i ++ none i) ∙ append-nil rest;
+            once = λ k. once-moved v.tokens token client wire rest may.once inside may.on_wire
+                (after_step token client (Balancer b) n v).tokens long k to lands lists;
+            wires = long ∙ may.wires;
+            of = may.of;
+          }
+      by (Exit i) is =
+          let lists : (u : ℕ) → on (lists_after token (λ _. []) v.tokens) u ≡ without token (on v.tokens u) =
+          λ u. lists-after-on v.tokens token (λ _. []) (λ _ _. refl) u ∙ append-nil (without token (on v.tokens u)) in
+          let long = length-map-range_with_len (λ u. without token (on v.tokens u) ++ []) 0 (length v.tokens) in
+          record {
+            on_wire = lists wire ∙ rest-on v.tokens token client wire rest may.once inside may.on_wire;
+            once = λ k. once-gone v.tokens token client wire rest may.once inside may.on_wire (after_step token client (Exit i) n v).tokens
+                long k lists;
+            wires = long ∙ may.wires;
+            of = may.of;
+          }
 
   module _ (id : ℕ) where
     -- these tokens go by one after the other
