@@ -10,7 +10,7 @@ pub use Rattle.std.proofs.lemmas.List.Sums.{fold-append, sum_by-cons}
 pub use Rattle.cn_spec.specs.Step.{counts_of, shares, counts_after, shares_after, share}
 pub use Rattle.cn_texts.specs.Reading.Records.{Record, records_of}
 pub use Rattle.cn_texts.specs.Writing.Pieces.{Puts}
-pub use Rattle.cn_texts.proofs.CallerLemmas.{AreClean, arrival_at, cause_later, clean-all, clean-header, clean-more, client_of, end-same, line-whole, lines-by, other-epoch, put-all, put-last, put-next, put-none, put-same, put-then, same-epoch, text-held}
+pub use Rattle.cn_texts.proofs.CallerLemmas.{AreClean, arrival_at, cause_later, clean-all, clean-header, clean-more, client_of, each-append, each-weaker, form-none, last-there, not-there, end-same, line-whole, lines-by, other-epoch, put-all, put-last, put-next, put-none, put-same, put-then, same-epoch, text-held}
 pub use Rattle.cn_texts.specs.Grants.ListText.{grant_lines, grants_text}
 unfoldable pub use Rattle.cn_texts.specs.Grants.ListText.{grant_line, grants_header}
 pub use Rattle.cn_report.specs.Callers.{HasHolders, IsWhole, IsWholeRecord, plain_tight}

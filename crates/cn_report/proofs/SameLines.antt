@@ -1,5 +1,5 @@
 -- Answers that say the same have the same lines, and those that are whole leave out nothing.
-use Rattle.cn_report.proofs.Common.{◌≡◌, ◌<◌, ◌∙◌, ℕ, List, [], ◌∷◌, ◌++◌, refl, ap, arith, length, AllZip, Command, IsShowable, answer_line, answer_lines, counts_or_shares, EpochRecord, grant_lines, lines-by, IsWhole}
+use Rattle.cn_report.proofs.Common.{◌≡◌, ◌<◌, ◌∙◌, ℕ, List, [], ◌∷◌, refl, ap, arith, length, AllZip, Command, IsShowable, answer_line, answer_lines, counts_or_shares, EpochRecord, grant_lines, lines-by, IsWhole}
 use Rattle.cn_ledger.specs.declared.answer.Answer.{Answer}
 use Rattle.cn_ledger.specs.declared.answer.Answer.TheVariants.{Replied, Turned, TurnRefused}
 use Rattle.cn_ledger.specs.declared.command.Command.TheVariants.{Enter, Step, Turn}

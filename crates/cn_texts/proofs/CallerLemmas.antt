@@ -12,3 +12,7 @@ pub use Rattle.cn_texts.proofs.GrantLemmas.TightLines.{end-same, line-whole}
 pub use Rattle.cn_texts.proofs.ReadingLemmas.FirstFaults.{AreClean, cause_later, clean-all, clean-header, clean-more}
 -- the arrivals of an epoch's clients
 pub use Rattle.cn_texts.proofs.ReadingLemmas.GatheredEpochs.{arrival_at, client_of, other-epoch, same-epoch}
+-- what is true of each element, and which numbers are there
+pub use Rattle.cn_texts.proofs.Each.{each-append, each-weaker, last-there, not-there}
+-- a grant whose form has no cause
+pub use Rattle.cn_texts.proofs.GrantLemmas.CheckedGrants.{form-none}

@@ -65,7 +65,7 @@ pub use Rattle.csv.specs.Reading.{ChangesHeaders, ReadRecord, default_config, ha
 unfoldable pub use Rattle.csv.specs.Reading.{Reached, records_from}
 pub use Rattle.cn_ledger.specs.declared.command.Command.{Command}
 pub use Rattle.std.proofs.lemmas.List.FromFn.{get_or-enumerate_from, get_or-map-range_with_len, length-enumerate_from, map-range_with_len_more}
-pub use Rattle.cn_texts.specs.Writing.Wiring.{wire_line, wires_line, wiring_text}
+pub use Rattle.cn_texts.specs.Writing.Wiring.{wire_line, wiring_text}
 pub use Rattle.cn_texts.specs.declared.grants.epochs.NamedEpoch.{NamedEpoch}
 pub use Rattle.std.proofs.lemmas.List.Sorted.{All-permutation, IsPermutation-map, length_permutation, list_any-IsPermutation, ranks_by, sorted_far}
 pub use Rattle.cn_texts.specs.Reading.Faults.{IsClean, IsCleanBefore, IsFirstFault}

@@ -6,7 +6,6 @@ pub mod FirstFaults
 pub mod GatheredEpochs
 pub mod RecordFields
 pub mod RecordLists
-pub mod Results
 pub mod ScheduleRecords
 pub mod ServableEpochs
 pub mod Stretches

@@ -1,5 +1,6 @@
 -- The numbers of a batch that was read, and how many clients it has.
-use Rattle.cn_report.proofs.Common.{◌≡◌, ◌<◌, ◌≤◌, ◌+◌, ◌^◌, ℕ, List, [], ◌∷◌, ◌++◌, Option, Some, None, Result, Ok, Err, length, map, take, drop, get_or, refl, arith, suc, sym, ap, ◌∙◌, subst, length-append, All, AllByRecursion, cons_option, flat_map, sum_by, nat_tests, length-map, take_all, take_more, All-cons, All-nil, filter_map-append, sum_by-cons, Record, result_ok, Client, arrival_cause, arrival_in, arrival_with_entry, arrivals_in, arriving, entry_by_rule, ruled_arrival, spelled_cause, IsBatch, arrivals_of, batch_cause, header_cause, record_cause, heading_in, IsClean, number_in, Arrival, BatchEpoch, cause_later}
+use Rattle.cn_report.proofs.Common.{◌≡◌, ◌<◌, ◌≤◌, ◌+◌, ◌^◌, ℕ, List, [], ◌∷◌, ◌++◌, Option, Some, None, Result, Ok, Err, length, map, take, drop, get_or, refl, arith, suc, sym, ap, ◌∙◌, subst, length-append, All, AllByRecursion, cons_option, flat_map, sum_by, nat_tests, length-map, take_all, take_more, All-cons, All-nil, filter_map-append, Record, result_ok, Client, arrival_cause, arrival_in, arrival_with_entry, arrivals_in, arriving, entry_by_rule, ruled_arrival, spelled_cause, IsBatch, arrivals_of, batch_cause, header_cause, record_cause, heading_in, IsClean, number_in, Arrival, BatchEpoch, arrival_at, cause_later}
+use Rattle.std.proofs.lemmas.List.Concat.{length-flat_map}
 use Rattle.std.proofs.lemmas.Option.{none-some}
 use Rattle.cn_texts.specs.declared.reading.bounds.Bounds.{Bounds}
 use Rattle.cn_texts.specs.declared.reading.batch.arrival.Heading.{Heading}
@@ -135,12 +136,7 @@ abbrev clients_in : BatchEpoch → ℕ
 clients_in e = length e.clients.items
 
 arrivals-many : (epochs : List BatchEpoch) → length (flat_map arrivals_of epochs) ≡ sum_by clients_in epochs
-arrivals-many [] = refl
-arrivals-many (e ∷ epochs) =
-    length-append (arrivals_of e) (flat_map arrivals_of epochs)
-    ∙ (λ i. length-map {B = Arrival} e.clients.items (λ (c : Client). record { epoch = e.number; client = c.id; entry = c.entry }) i
-    + arrivals-many epochs i)
-    ∙ sym (sum_by-cons clients_in e epochs)
+arrivals-many epochs = length-flat_map arrivals_of epochs ∙ (λ i. sum_by (λ e. length-map e.clients.items (arrival_at e.number) i) epochs)
 
 -- a batch's numbers are of 64 bits, and its clients are no more than the limit of records
 pub batch-numbers : (bounds : Bounds) (records : List Record) (epochs : List BatchEpoch) → IsBatch bounds records epochs

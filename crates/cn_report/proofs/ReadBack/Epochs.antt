@@ -1,6 +1,9 @@
 -- The grants of epochs whose numbers rise, epoch by epoch.
-use Rattle.cn_report.proofs.Common.{◌≡◌, ◌<◌, ◌+◌, ℕ, List, [], ◌∷◌, ◌++◌, length, map, get_or, refl, arith, sym, ap, ◌∙◌, length-append, ◌==◌, ◌≢◌, AllByRecursion, flat_map, range_with_len, eq-eqb, ne_eqb, append-nil, filter-append, sum_by-cons, fill_by_all, length-map-range_with_len, EpochRecord, of_epoch, Granted, grant_lines, clients_of_records}
+use Rattle.cn_report.proofs.Common.{◌≡◌, ◌<◌, ℕ, List, [], ◌∷◌, ◌++◌, length, map, get_or, refl, arith, sym, ap, ◌∙◌, ◌==◌, ◌≢◌, AllByRecursion, flat_map, range_with_len, eq-eqb, ne_eqb, append-nil, filter-append, sum_by, fill_by_all, length-map-range_with_len, EpochRecord, of_epoch, Granted, grant_lines, clients_of_records}
 use Rattle.std.proofs.lemmas.List.Folds.{flat_map-map}
+use Rattle.std.proofs.lemmas.List.{map-id}
+use Rattle.std.proofs.lemmas.List.Concat.{length-flat_map}
+use mathlib.Core.List.{map-map}
 use Rattle.std.proofs.lemmas.Grind.{flat_map-append}
 use Rattle.cn_report.proofs.ReadBack.Records.{line_of}
 
@@ -23,10 +26,8 @@ lines-of-all (r ∷ records) =
     ∙ sym (flat_map-append line_of (grants_of r) (all_grants records))
 
 pub grants-many : (records : List EpochRecord) → length (all_grants records) ≡ clients_of_records records
-grants-many [] = refl
-grants-many (r ∷ records) =
-    length-append (grants_of r) (all_grants records) ∙ (λ i. length-map-range_with_len (grant_at r) 0 r.clients i + grants-many records i)
-    ∙ sym (sum_by-cons (λ s. s.clients) r records)
+grants-many records =
+    length-flat_map grants_of records ∙ (λ i. sum_by (λ r. length-map-range_with_len (grant_at r) 0 r.clients i) records)
 
 -- those of one epoch
 one-epoch : (r : EpochRecord) (names : List ℕ) → of_epoch r.number (map (grant_at r) names) ≡ map (grant_at r) names
@@ -61,16 +62,9 @@ later-epoch e r records other =
 -- an epoch's clients are its holders
 pub clients-held : (r : EpochRecord) → length r.holders.items ≡ r.clients → map (λ (g : Granted). g.client) (grants_of r) ≡ r.holders.items
 clients-held r whole =
-    map-same (range_with_len 0 r.clients) ∙ sym (fill_by_all held r.holders.items r.clients 0 whole (λ k h. refl))
-  where
-    held : ℕ → ℕ
-    held name = get_or r.holders.items name 0
-
-    map-same : (names : List ℕ) → map (λ (g : Granted). g.client) (map (grant_at r) names) ≡ map held names
-    map-same [] = refl
-    map-same (n ∷ names) = ap (λ (l : List ℕ). held n ∷ l) (map-same names)
+    map-map (λ (g : Granted). g.client) (grant_at r) (range_with_len 0 r.clients)
+    ∙ sym (fill_by_all (λ name. get_or r.holders.items name 0) r.holders.items r.clients 0 whole (λ k h. refl))
 
 -- and its names are those below their number
 pub names-given : (r : EpochRecord) (names : List ℕ) → map (λ (g : Granted). g.name) (map (grant_at r) names) ≡ names
-names-given r [] = refl
-names-given r (n ∷ names) = ap (λ (l : List ℕ). n ∷ l) (names-given r names)
+names-given r names = map-map (λ (g : Granted). g.name) (grant_at r) names ∙ map-id names

@@ -1,5 +1,6 @@
 -- The records of a grant list that is written.
-use Rattle.cn_report.proofs.Common.{◌≡◌, ◌<◌, ◌≤◌, ◌+◌, ◌^◌, ℕ, List, [], ◌∷◌, ◌++◌, length, map, refl, arith, suc, zero, ap, ◌∙◌, append_assoc, length-append, ⊤, Bool, codes, decimal, if◌then◌else◌, flat_map, Record, records_of, default_writer, escaped, fields_text, is_blank, quote_mark, read_back, row_body, row_text, grant_line, grants_header, Granted}
+use Rattle.cn_report.proofs.Common.{◌≡◌, ◌<◌, ◌≤◌, ◌+◌, ◌^◌, ℕ, List, [], ◌∷◌, ◌++◌, length, map, refl, arith, suc, zero, ap, ◌∙◌, append_assoc, length-append, AllByRecursion, Bool, codes, decimal, if◌then◌else◌, flat_map, Record, records_of, default_writer, escaped, fields_text, is_blank, quote_mark, read_back, row_body, row_text, grant_line, grants_header, Granted}
+use mathlib.Core.List.{map-map}
 use Rattle.csv.specs.Machine.{next_record}
 use Rattle.csv.specs.Reading.{default_config, records_from, strip_bom}
 use Rattle.csv.proofs.RoundTrip.{read-write, rows_text}
@@ -32,12 +33,8 @@ unfolding grant_line fields_text is_blank
 line_text g small = rw (decimal_text g.epoch small.epoch, decimal_text g.client small.client, decimal_text g.name small.name)
     (simp append_assoc refl)
 
-unfoldable pub AllSmall : List Granted → Type 0
-AllSmall [] = ⊤
-AllSmall (g ∷ gs) = IsSmall g × AllSmall gs
-
-lines-text : (gs : List Granted) → AllSmall gs → flat_map line_of gs ≡ rows_text (map record_of gs)
-unfolding rows_text AllSmall
+lines-text : (gs : List Granted) → AllByRecursion IsSmall gs → flat_map line_of gs ≡ rows_text (map record_of gs)
+unfolding rows_text
 lines-text [] small = refl
 lines-text (g ∷ gs) small = λ i. line_text g small.0 i ++ lines-text gs small.1 i
 
@@ -70,23 +67,18 @@ records-few (given ∷ records) = omega (
         let last : List ℕ = 10 ∷ [] in
         omega (arith, length-append (row_body default_writer fields) (end blank ++ last), length-append (end blank) last)
 
-records-read : (gs : List Granted) → map read_back (map record_of gs) ≡ map record_of gs
-records-read [] = refl
-records-read (g ∷ gs) = ap (λ (l : List Record). record_of g ∷ l) (records-read gs)
-
 -- no byte order mark
 no_mark : (more : List ℕ) → strip_bom (grants_header ++ more) ≡ grants_header ++ more
 unfolding strip_bom grants_header
 no_mark more = refl
 
-whole : (gs : List Granted) → AllSmall gs → grants_header ++ flat_map line_of gs ≡ rows_text (header_record ∷ map record_of gs)
-unfolding rows_text
-whole gs small = λ i. header_text i ++ lines-text gs small i
-
 -- the records of a written list are its header and a record for each grant
-pub grants-back : (gs : List Granted) → AllSmall gs → records_of (grants_header ++ flat_map line_of gs) ≡ header_record ∷ map record_of gs
+pub grants-back : (gs : List Granted) → AllByRecursion IsSmall gs
+    → records_of (grants_header ++ flat_map line_of gs) ≡ header_record ∷ map record_of gs
+unfolding rows_text
 grants-back gs small =
-    let text : grants_header ++ flat_map line_of gs ≡ rows_text (header_record ∷ map record_of gs) = whole gs small in
+    let text : grants_header ++ flat_map line_of gs ≡ rows_text (header_record ∷ map record_of gs) =
+    λ i. header_text i ++ lines-text gs small i in
     let back : records_of (grants_header ++ flat_map line_of gs)
     ≡ records_from default_config (length (grants_header ++ flat_map line_of gs) + 1) st.StartRecord
     (grants_header ++ flat_map line_of gs) =
@@ -95,4 +87,4 @@ grants-back gs small =
     ∙ ap (λ (t : List ℕ). records_from default_config (length t + 1) st.StartRecord t) text
     ∙ all-back (header_record ∷ map record_of gs) (length (rows_text (header_record ∷ map record_of gs)) + 1)
     (omega (arith, records-few (header_record ∷ map record_of gs)))
-    ∙ ap (λ (l : List Record). header_record ∷ l) (records-read gs)
+    ∙ ap (λ (l : List Record). header_record ∷ l) (map-map read_back record_of gs)

@@ -1,9 +1,8 @@
 -- A grant list that is written of tight epochs is tight.
-use Rattle.cn_report.proofs.Common.{◌≡◌, ◌<◌, ◌≤◌, ◌+◌, ◌^◌, ℕ, List, [], ◌∷◌, ◌++◌, length, map, get_or, arith, suc, zero, ap, ◌∙◌, subst, length-append, inl, inr, ◌≢◌, ◌⊎◌, AllByRecursion, range_with_len, eqb_tells, recursion_from_All, true, false, records_of, length-map-range_with_len, IsPermutation-refl, times-nil, MOST_NAMED, EpochRecord, of_epoch, AreTightGrants, IsTightList, Granted, grants_header, grants_text, AreRisingRecords, AreTightRecords, HasOwnNames}
-use Rattle.std.proofs.Math.Dec.{eqb}
+use Rattle.cn_report.proofs.Common.{◌≡◌, ◌<◌, ◌≤◌, ◌+◌, ◌^◌, ℕ, List, [], ◌∷◌, ◌++◌, length, map, get_or, arith, suc, zero, ap, ◌∙◌, subst, length-append, each-append, each-weaker, inl, inr, AllByRecursion, range_with_len, eqb_tells, recursion_from_All, records_of, length-map-range_with_len, IsPermutation-refl, times-nil, MOST_NAMED, EpochRecord, of_epoch, AreTightGrants, IsTightList, Granted, grants_header, grants_text, AreRisingRecords, AreTightRecords, HasOwnNames}
 use Rattle.cn_report.proofs.ReadBack.Epochs.{all_grants, clients-held, first-epoch, grant_at, grants-many, grants_of, later-epoch, lines-of-all, names-given}
 use Rattle.cn_report.proofs.ReadBack.Form.{NeverFall, form-clean, grants-read}
-use Rattle.cn_report.proofs.ReadBack.Records.{AllSmall, grants-back, header_record, record_of}
+use Rattle.cn_report.proofs.ReadBack.Records.{IsSmall, grants-back, header_record, record_of}
 
 -- an epoch with no grants has no record
 none-tight : AreTightGrants []
@@ -35,13 +34,7 @@ small_at [] n all = omega arith
 small_at (h ∷ holders) zero all = all.0
 small_at (h ∷ holders) (suc n) all = small_at holders n all.1
 
-small-append : (gs more : List Granted) → AllSmall gs → AllSmall more → AllSmall (gs ++ more)
-unfolding AllSmall
-small-append [] more first rest = rest
-small-append (g ∷ gs) more first rest = (first.0, small-append gs more first.1 rest)
-
-small-names : (r : EpochRecord) (from n : ℕ) → HasOwnNames r → from + n ≤ 2 ^ 64 → AllSmall (map (grant_at r) (range_with_len from n))
-unfolding AllSmall
+small-names : (r : EpochRecord) (from n : ℕ) → HasOwnNames r → from + n ≤ 2 ^ 64 → AllByRecursion IsSmall (map (grant_at r) (range_with_len from n))
 small-names r from zero own few = tt
 small-names r from (suc n) own few = (
   record {
@@ -70,29 +63,22 @@ all-fall : (low : ℕ) (records : List EpochRecord) → AllByRecursion (λ r. lo
 unfolding NeverFall AreRisingRecords
 all-fall low [] all rising = tt
 all-fall low (r ∷ records) all rising =
-    let rest = all-fall r.number records (above_all r.number records rising.0) rising.1 in
+    let above = each-weaker (λ (s : EpochRecord). r.number < s.number) (λ s. r.number ≤ s.number) (λ s h. omega (arith, h)) records
+    rising.0 in
+    let rest = all-fall r.number records above rising.1 in
     never-falls r low 0 r.clients (all_grants records) all.0 rest (lower low r.number (all_grants records) all.0 rest)
-  where
-    above_all : (n : ℕ) (later : List EpochRecord) → AllByRecursion (λ s. n < s.number) later → AllByRecursion (λ s. n ≤ s.number) later
-    above_all n [] h = tt
-    above_all n (s ∷ later) h = (omega (arith, h.0), above_all n later h.1)
-
-any-number : (records : List EpochRecord) → AllByRecursion (λ r. 0 ≤ r.number) records
-any-number [] = tt
-any-number (r ∷ records) = (omega arith, any-number records)
 
 all_small : (records : List EpochRecord) → AllByRecursion HasOwnNames records → length (all_grants records) ≤ 2 ^ 64
-    → AllSmall (all_grants records)
-unfolding AllSmall
+    → AllByRecursion IsSmall (all_grants records)
 all_small [] own few = tt
 all_small (r ∷ records) own few =
     let size = length-append (grants_of r) (all_grants records) in
-    small-append (grants_of r) (all_grants records)
+    each-append IsSmall (grants_of r) (all_grants records)
     (small-names r 0 r.clients own.0 (omega (arith, few, size, length-map-range_with_len (grant_at r) 0 r.clients)))
     (all_small records own.1 (omega (arith, few, size)))
 
 pub small-grants : (most : ℕ) (records : List EpochRecord) → most ≤ MOST_NAMED → AreTightRecords most records
-    → AllSmall (all_grants records)
+    → AllByRecursion IsSmall (all_grants records)
 small-grants most records h tight = all_small records tight.names (omega (arith, h, tight.few, grants-many records))
 
 -- the records of the written list, and the grants that they spell
@@ -106,7 +92,8 @@ pub written-tight : (most : ℕ) (records : List EpochRecord) → most ≤ MOST_
     → IsTightList most (records_of (grants_text records))
 written-tight most records h tight =
     let small = small-grants most records h tight in
-    let falls = all-fall 0 records (any-number records) tight.rising in
+    let any = each-weaker HasOwnNames (λ r. 0 ≤ r.number) (λ r own. omega arith) records tight.names in
+    let falls = all-fall 0 records any tight.rising in
     rw (records-back most records h tight) (record {
       form = form-clean most (all_grants records) small falls (omega (arith, tight.few, grants-many records));
       tight = λ e. rw (grants-read (all_grants records) small) (each-tight records tight.rising tight.names e);

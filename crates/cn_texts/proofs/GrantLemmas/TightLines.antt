@@ -1,5 +1,6 @@
 -- The line of a tight epoch, in parts.
-use Rattle.cn_texts.proofs.Common.{◌≡◌, ℕ, List, [], ◌∷◌, ◌++◌, length, map, refl, sym, ap, ap₂, arith, ◌∙◌, append_assoc, sum_by, length-map, sum_by-cons, codes, decimal, line, tight_counts, tight_end, tight_head, tight_line}
+use Rattle.std.proofs.lemmas.List.Folds.{fold-map}
+use Rattle.cn_texts.proofs.Common.{◌≡◌, ◌+◌, ℕ, List, [], ◌∷◌, ◌++◌, length, map, refl, sym, ap, ap₂, ◌∙◌, append_assoc, sum_by, length-map, codes, decimal, line, tight_counts, tight_end, tight_head, tight_line}
 
 -- a line of a word and numbers: each number after a space
 line-counts : (word : List ℕ) (counts : List ℕ) → line (word ∷ map decimal counts) ≡ word ++ (tight_counts counts ++ codes "\n")
@@ -19,10 +20,7 @@ line-whole number clients counts =
 -- the end line, by the numbers of what the epochs are made of
 sum-mapped : {X : Type 0} (f : X → ℕ × ℕ × List ℕ) (xs : List X)
     → sum_by (λ (number, clients, counts). clients) (map f xs) ≡ sum_by (λ x. (f x).1) xs
-sum-mapped f [] = refl
-sum-mapped f (x ∷ xs) =
-    let rest = sum-mapped f xs in
-    omega (arith, rest, sum_by-cons (λ (t : ℕ × ℕ × List ℕ). t.1) (f x) (map f xs), sum_by-cons (λ (y : _). (f y).1) x xs)
+sum-mapped f xs = fold-map (λ (a : ℕ) (t : ℕ × ℕ × List ℕ). a + t.1) f 0 xs
 
 pub end-same : {X : Type 0} (f : X → ℕ × ℕ × List ℕ) (xs : List X) (n k : ℕ) → n ≡ length xs → k ≡ sum_by (λ x. (f x).1) xs
     → tight_end n k ≡ tight_end (length (map f xs)) (sum_by (λ (number, clients, counts). clients) (map f xs))

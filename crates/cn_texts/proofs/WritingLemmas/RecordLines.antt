@@ -1,5 +1,5 @@
 -- The records of epochs, one after another.
-use Rattle.cn_texts.proofs.Common.{◌≡◌, ℕ, ◌+◌, ◌<◌, ◌≤◌, Bool, true, false, List, [], ◌∷◌, ◌++◌, drop, get_or, length, take, ap, ◌∙◌, refl, sym, subst, arith, flat_map, sum_by-cons, drop_more, drop_of_length-le, when, EpochRecord, BatchEpoch, clients_of_epochs, AreRecordsOf, IsRecordOfEpoch, clients_of_records}
+use Rattle.cn_texts.proofs.Common.{◌≡◌, ℕ, ◌+◌, ◌<◌, ◌≤◌, Bool, true, false, List, [], ◌∷◌, ◌++◌, drop, get_or, length, take, ap, ◌∙◌, refl, sym, subst, arith, flat_map, sum_by-cons, sum_by-drop_more, drop_more, drop_of_length-le, when, EpochRecord, BatchEpoch, clients_of_epochs, AreRecordsOf, IsRecordOfEpoch, clients_of_records}
 
 pub when-le : (carry : Bool) (n : ℕ) → when carry n ≤ n
 when-le true n = omega arith
@@ -39,6 +39,16 @@ no-record : (lines : EpochRecord → List ℕ) (carry : Bool) (w m : ℕ) (recor
 unfolding AreRecordsOf
 no-record lines carry w m [] holders are = refl
 no-record lines carry w m (r ∷ records) holders are = absurd are
+
+-- the clients of an epoch, and of those after it
+pub first-clients : (epochs : List BatchEpoch) (i : ℕ) (e : BatchEpoch) → i < length epochs → e ≡ get_or epochs i e
+    → clients_of_epochs (drop i epochs) ≡ length e.clients.items + clients_of_epochs (drop (i + 1) epochs)
+first-clients epochs i e within is =
+    omega (
+      arith,
+      ap (λ (x : BatchEpoch). length x.clients.items) is,
+      sum_by-drop_more (λ (x : BatchEpoch). length x.clients.items) epochs i e within,
+    )
 
 -- from the end on there are none
 pub last-record : (lines : EpochRecord → List ℕ) (carry : Bool) (w m : ℕ) (epochs : List BatchEpoch) (i : ℕ) (records : List EpochRecord)

@@ -1,5 +1,5 @@
 -- Answers that have the same lines.
-use Rattle.cn_texts.proofs.Common.{◌≡◌, ◌<◌, ◌∙◌, ℕ, List, [], ◌∷◌, ◌++◌, refl, ap₂, arith, get_or, length, suc, zero, AllZip, Answer, Command, answer_line, answer_lines}
+use Rattle.cn_texts.proofs.Common.{◌≡◌, ℕ, List, [], ◌∷◌, ◌++◌, refl, ap₂, AllZip, Answer, Command, answer_line, answer_lines}
 
 -- answers have the same lines if each has those of the other in its place
 pub lines-by : (R : Answer → Answer → Type 0) (width : ℕ)

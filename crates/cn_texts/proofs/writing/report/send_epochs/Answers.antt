@@ -1,6 +1,6 @@
-use Rattle.cn_texts.proofs.Common.{◌≡◌, ◌+◌, ◌++◌, ◌∙◌, ℕ, Bool, List, [], ap, append_assoc, append-nil, arith, drop, length, refl, subst, sym, take, flat_map, sum_by-drop_more, shares_after, when, BatchEpoch, EpochRecord, exit_lines, name_lines, AreRecordsOf, epoch_line, epoch_lines}
+use Rattle.cn_texts.proofs.Common.{◌≡◌, ◌+◌, ◌++◌, ◌∙◌, ℕ, Bool, List, [], ap, append_assoc, append-nil, arith, drop, length, refl, subst, sym, take, flat_map, shares_after, when, BatchEpoch, EpochRecord, exit_lines, name_lines, AreRecordsOf, epoch_line, epoch_lines}
 use Rattle.cn_texts.proofs.WritingLemmas.Putting.{put-none, put-same, put-then}
-use Rattle.cn_texts.proofs.WritingLemmas.RecordLines.{FirstRecord, first-record, last-record, when-le}
+use Rattle.cn_texts.proofs.WritingLemmas.RecordLines.{FirstRecord, first-clients, first-record, last-record, when-le}
 use Rattle.cn_texts.proofs.writing.report.send_epochs.Goals as goal
 
 -- a record, by what is put of it
@@ -17,14 +17,8 @@ record-lines carry w m e epochs records holders own front many f =
 pub split_at-requires : goal.split_at-requires
 split_at-requires g c =
     let e = c.epoch-item.result in
-    omega (
-      arith,
-      c.len.ensures,
-      e.clients.ok.0,
-      c.loop-epoch.invariant.as_many,
-      ap (λ (x : BatchEpoch). length x.clients.items) c.epoch-item.is,
-      sum_by-drop_more (λ (x : BatchEpoch). length x.clients.items) c.args.epochs.now c.loop-epoch.epoch-index e c.loop-epoch-test.true,
-    )
+    let all = first-clients c.args.epochs.now c.loop-epoch.epoch-index e c.loop-epoch-test.true c.epoch-item.is in
+    omega (arith, c.len.ensures, e.clients.ok.0, c.loop-epoch.invariant.as_many, all)
 
 pub loop-epoch-init : goal.loop-epoch-init
 loop-epoch-init g c =
@@ -41,19 +35,13 @@ loop-epoch-preserved g c =
     let m = c.loop-epoch.before in
     let count : c.len.result ≡ length e.clients.items = omega (arith, c.len.ensures, e.clients.ok.0) in
     let front = c.split_at.ensures.front ∙ ap (λ n. take n c.loop-epoch.left.now) count in
+    let all = first-clients c.args.epochs.now c.loop-epoch.epoch-index e c.loop-epoch-test.true c.epoch-item.is in
     let back = c.split_at.ensures.back ∙ ap (λ n. drop n c.loop-epoch.left.now) count in
     let many = c.split_at.ensures.front_len ∙ count in
     let next : c.carried-before.result ≡ when c.args.carries (m + length e.clients.items) =
     c.carried-before.ensures ∙ ap (λ n. when c.args.carries (m + n)) many in
     record {
-      as_many = omega (
-        arith,
-        count,
-        c.split_at.ensures.back_len,
-        c.loop-epoch.invariant.as_many,
-        ap (λ (x : BatchEpoch). length x.clients.items) c.epoch-item.is,
-        sum_by-drop_more (λ (x : BatchEpoch). length x.clients.items) c.args.epochs.now c.loop-epoch.epoch-index e c.loop-epoch-test.true,
-      );
+      as_many = omega (arith, count, c.split_at.ensures.back_len, c.loop-epoch.invariant.as_many, all);
       few = omega (
         arith,
         count,
