@@ -15,11 +15,15 @@ module _ (carry : Bool) (width : ℕ) where
   each-of P Q f m [] [] served all = tt
   each-of P Q f m [] (r ∷ records) served all = absurd served
   each-of P Q f m (e ∷ epochs) [] served all = absurd served
-  each-of P Q f m (e ∷ epochs) (r ∷ records) (one, rest) all =
-      (f m e r one all.0, each-of P Q f (clients_before_next carry m (length e.clients.items)) epochs records rest all.1)
+  each-of P Q f m (e ∷ epochs) (r ∷ records) (one, rest) all = (
+    f m e r one all.0,
+    each-of P Q f (clients_before_next carry m
+        (length e.clients.items)) epochs records rest all.1,
+  )
 
   -- the records' numbers rise as the epochs' do
-  rising : (m : ℕ) (epochs : List BatchEpoch) (records : List EpochRecord) → AreServed carry width m epochs records → AreRising epochs
+  rising : (m : ℕ) (epochs : List BatchEpoch) (records : List EpochRecord) → AreServed carry width m epochs records
+      → AreRising epochs
       → AreRisingRecords records
   unfolding AreServed AreRising AreRisingRecords
   rising m [] [] served up = tt
@@ -27,7 +31,8 @@ module _ (carry : Bool) (width : ℕ) where
   rising m (e ∷ epochs) [] served up = absurd served
   rising m (e ∷ epochs) (r ∷ records) (one, rest) up =
       let next = clients_before_next carry m (length e.clients.items) in (
-        each-of (λ x. e.number < x.number) (λ x. r.number < x.number) (λ k x y same above. omega (arith, one.number, same.number, above))
+        each-of (λ x. e.number < x.number) (λ x. r.number < x.number)
+            (λ k x y same above. omega (arith, one.number, same.number, above))
             next epochs records rest up.0,
         rising next epochs records rest up.1,
       )
@@ -42,14 +47,16 @@ module _ (carry : Bool) (width : ℕ) where
   mapped f g same m [] (r ∷ records) served = absurd served
   mapped f g same m (e ∷ epochs) [] served = absurd served
   mapped f g same m (e ∷ epochs) (r ∷ records) (one, rest) =
-      λ i. same m e r one i ∷ mapped f g same (clients_before_next carry m (length e.clients.items)) epochs records rest i
+      λ i. same m e r one i ∷ mapped f g same (clients_before_next carry m
+      (length e.clients.items)) epochs records rest i
 
 own-names : (width m : ℕ) (e : BatchEpoch) (r : EpochRecord) → IsServed width m e r → IsSmallEpoch e → HasOwnNames r
 own-names width m e r served small = record {
   number = omega (arith, served.number, small.number);
   clients = All-permutation (λ (client : ℕ). client < 2 ^ 64) (map (λ (c : Client). c.id) e.clients.items) r.holders.items served.holders
       small.clients;
-  holders = length_permutation _ _ served.holders ∙ length-map e.clients.items (λ (c : Client). c.id) ∙ sym served.clients;
+  holders = length_permutation _ _ served.holders ∙ length-map e.clients.items (λ (c : Client). c.id)
+      ∙ sym served.clients;
   once = served.once;
 }
 
@@ -63,13 +70,16 @@ module _ (net : Description) (carry large : Bool) (bytes text : List ℕ) (run :
       let width = run.network.table.width in
       let numbers = batch-numbers (bounds_of large (entries_of net.kind net.width)) (records_of bytes) run.epochs run.batch in
       let few : sum_by (λ (e : BatchEpoch). length e.clients.items) run.epochs ≤ (bounds_of large 0).records = numbers.1 in
-      let many = mapped carry width (λ e. length e.clients.items) (λ r. r.clients) (λ m e r one. one.clients) 0 run.epochs run.records run.served in
+      let many = mapped carry width (λ e. length e.clients.items) (λ r. r.clients)
+      (λ m e r one. one.clients) 0 run.epochs run.records run.served in
       let total : clients_of_records run.records ≡ sum_by (λ (e : BatchEpoch). length e.clients.items) run.epochs =
-      sym (fold-map (λ (a n : ℕ). a + n) (λ (r : EpochRecord). r.clients) 0 run.records) ∙ ap (fold (λ (a n : ℕ). a + n) 0) many
+      sym (fold-map (λ (a n : ℕ). a + n) (λ (r : EpochRecord). r.clients) 0 run.records)
+      ∙ ap (fold (λ (a n : ℕ). a + n) 0) many
       ∙ fold-map (λ (a n : ℕ). a + n) (λ (e : BatchEpoch). length e.clients.items) 0 run.epochs in
       record {
         rising = rising carry width 0 run.epochs run.records run.served run.batch.holds.rising;
-        names = each-of carry width IsSmallEpoch HasOwnNames (own-names width) 0 run.epochs run.records run.served numbers.0;
+        names = each-of carry width IsSmallEpoch HasOwnNames
+            (own-names width) 0 run.epochs run.records run.served numbers.0;
         few = omega (arith, total, few);
       }
 
@@ -82,7 +92,8 @@ module _ (net : Description) (carry large : Bool) (bytes text : List ℕ) (run :
   printed w =
       ap (λ (t : List ℕ). printed_epochs w (records_of t)) run.written
       ∙ printed-back (bounds_of large 0).records w run.records (few-records large) tight
-      (each-of carry run.network.table.width (λ e. 0 < length e.clients.items) (λ r. 0 < r.clients) (λ m e r one some. omega (arith, one.clients, some)) 0 run.epochs
+      (each-of carry run.network.table.width (λ e. 0 < length e.clients.items) (λ r. 0 < r.clients)
+      (λ m e r one some. omega (arith, one.clients, some)) 0 run.epochs
       run.records run.served run.batch.holds.some)
       ∙ mapped carry run.network.table.width (served_epoch w) (checked_epoch w)
       (λ m e r one i. (one.number i, one.clients i, shares (one.clients i) w)) 0 run.epochs run.records run.served

@@ -32,7 +32,8 @@ text-printed Report network records =
     let lines = sym (flat_map-map (printed-lines network.table.width) printed records) in
     let clients = sym (fold-map (λ (a : ℕ) (t : Printed). a + t.clients) printed 0 records) in
     λ i. heading network ++ lines i ++ report_end (sym (length-map records printed) i) (clients i)
-text-printed Grants network records = ap (λ (xs : List ℕ). grants_header ++ xs) (sym (flat_map-map printed-grants printed records))
+text-printed Grants network records = ap (λ (xs : List ℕ). grants_header ++ xs)
+    (sym (flat_map-map printed-grants printed records))
 
 -- it follows from the batch
 abbrev printed-of : Bool → ℕ → ℕ → List (ℕ × List Client) → List Printed

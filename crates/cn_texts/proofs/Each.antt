@@ -2,7 +2,8 @@
 use Rattle.cn_texts.proofs.Common.{◌≡◌, ◌<◌, ◌≤◌, ◌||◌, ℕ, List, [], ◌∷◌, ◌++◌, true, false, arith, ap, map, refl, eq-eqb, ne_eqb, AllByRecursion, list_any, nat_eq, nat_tests, times, times-cons, times-nil}
 use Rattle.std.proofs.lemmas.Bool.{or_right}
 
-pub each-weaker : {X : Type 0} (P Q : X → Type 0) → ((x : X) → P x → Q x) → (xs : List X) → AllByRecursion P xs → AllByRecursion Q xs
+pub each-weaker : {X : Type 0} (P Q : X → Type 0) → ((x : X) → P x → Q x) → (xs : List X) → AllByRecursion P xs
+    → AllByRecursion Q xs
 each-weaker P Q f [] all = tt
 each-weaker P Q f (x ∷ xs) all = (f x all.0, each-weaker P Q f xs all.1)
 
@@ -20,7 +21,8 @@ pub absent : (n : ℕ) (ns : List ℕ) → list_any (nat_eq n) ns ≡ false → 
 absent n [] h = times-nil n
 absent n (m ∷ ns) h = grind (arith, nat_tests, h, times-cons n m ns, absent n ns)
 
-pub any-map : {X : Type 0} (f : X → ℕ) (n : ℕ) (xs : List X) → list_any (nat_eq n) (map f xs) ≡ list_any (λ x. nat_eq n (f x)) xs
+pub any-map : {X : Type 0} (f : X → ℕ) (n : ℕ) (xs : List X)
+    → list_any (nat_eq n) (map f xs) ≡ list_any (λ x. nat_eq n (f x)) xs
 any-map f n [] = refl
 any-map f n (x ∷ xs) = ap (λ b. nat_eq n (f x) || b) (any-map f n xs)
 

@@ -4,7 +4,6 @@ pub mod BatchRecords
 pub mod Digits
 pub mod FirstFaults
 pub mod GatheredEpochs
-pub mod RecordFields
 pub mod RecordLists
 pub mod ScheduleRecords
 pub mod ServableEpochs

@@ -1,8 +1,7 @@
 -- What a check finds of a grant list that is written.
 use Rattle.cn_report.proofs.Common.{◌≡◌, ◌<◌, ◌≤◌, ◌+◌, ℕ, List, [], ◌∷◌, ◌++◌, true, length, map, refl, arith, suc, zero, sym, ap, ◌∙◌, drop, nat_eq, AllByRecursion, each-append, each-weaker, last-there, not-there, fold, list_any, range_with_len, append-nil, append_assoc, length-map, fold-append, counts_after, counts_of, shares, shares_after, Record, records_of, length-map-range_with_len, IsPermutation-refl, counts-shares, counts-shares-after, MOST_NAMED, EpochRecord, grants_spelled, of_epoch, IsTightList, epoch_numbers, printed_epoch, printed_epochs, with_number, Granted, grants_text, AreRisingRecords, AreTightRecords, checked_epoch, names_in}
-use Rattle.cn_report.proofs.ReadBack.Epochs.{all_grants, first-epoch, grant_at, grants_of, later-epoch, names-given}
-use Rattle.cn_report.proofs.ReadBack.Form.{grants-read}
-use Rattle.cn_report.proofs.ReadBack.TightAgain.{records-back, small-grants}
+use Rattle.cn_report.proofs.ReadBack.TightAgain.{all_grants, first-epoch, grant_at, grants_of, later-epoch, names-given, records-back, small-grants}
+use Rattle.cn_report.proofs.ReadBack.Records.{grants-read}
 
 -- ---- the epochs' numbers
 
@@ -25,19 +24,22 @@ one_number : (numbers : List ℕ) (r : EpochRecord) (n : ℕ) → 0 < n → AllB
     → numbers-after numbers (map (grant_at r) (range_with_len 0 n)) ≡ numbers ++ r.number ∷ []
 one_number numbers r zero some below = absurd (omega arith)
 one_number numbers r (suc n) some below =
-    let next : with_number numbers r.number ≡ numbers ++ r.number ∷ [] = rw (not-there (λ k. k) r.number numbers below) refl in
+    let next : with_number numbers r.number ≡ numbers
+    ++ r.number ∷ [] = rw (not-there (λ k. k) r.number numbers below) refl in
     ap (λ (ns : List ℕ). numbers-after ns (map (grant_at r) (range_with_len 1 n))) next
     ∙ known-before (numbers ++ r.number ∷ []) r 1 n (last-there r.number numbers)
 
 all-numbers : (low : ℕ) (numbers : List ℕ) (records : List EpochRecord) → AreRisingRecords records
-    → AllByRecursion (λ r. 0 < r.clients) records → AllByRecursion (λ k. k < low) numbers → AllByRecursion (λ r. low ≤ r.number) records
+    → AllByRecursion (λ r. 0 < r.clients) records → AllByRecursion (λ k. k < low) numbers
+    → AllByRecursion (λ r. low ≤ r.number) records
     → numbers-after numbers (all_grants records) ≡ numbers ++ map number_of records
 unfolding AreRisingRecords
 all-numbers low numbers [] rising some below above = sym (append-nil numbers)
 all-numbers low numbers (r ∷ records) rising some below above =
     let before = each-weaker (λ k. k < low) (λ k. k < r.number) (λ k h. omega (arith, h, above.0)) numbers below in
     let next = each-append (λ k. k < suc r.number) numbers (r.number ∷ [])
-    (each-weaker (λ k. k < r.number) (λ k. k < suc r.number) (λ k h. omega (arith, h)) numbers before) (omega arith, tt) in
+    (each-weaker (λ k. k < r.number) (λ k. k < suc r.number) (λ k h. omega (arith, h)) numbers before)
+    (omega arith, tt) in
     fold-append (λ (ns : List ℕ) (g : Granted). with_number ns g.epoch) numbers (grants_of r) (all_grants records)
     ∙ ap (λ (ns : List ℕ). numbers-after ns (all_grants records)) (one_number numbers r r.clients some.0 before)
     ∙ all-numbers (suc r.number) (numbers ++ r.number ∷ []) records rising.1 some.1 next rising.0

@@ -13,8 +13,10 @@ up-to : {g : Granting} {earlier latest : List Granted} → HoldsGrants g earlier
     → AllByRecursion (λ x. x.epoch ≤ g.latest) (earlier ++ latest)
 up-to {g = g} {earlier = earlier} {latest = latest} held =
     each-append (λ x. x.epoch ≤ g.latest) earlier latest
-    (each-weaker (λ (x : Granted). x.epoch < g.latest) (λ x. x.epoch ≤ g.latest) (λ x h. omega (arith, h)) earlier held.below)
-    (each-weaker (λ (x : Granted). x.epoch ≡ g.latest) (λ x. x.epoch ≤ g.latest) (λ x h. omega (arith, h)) latest held.here)
+    (each-weaker (λ (x : Granted). x.epoch < g.latest) (λ x. x.epoch ≤ g.latest)
+    (λ x h. omega (arith, h)) earlier held.below)
+    (each-weaker (λ (x : Granted). x.epoch ≡ g.latest) (λ x. x.epoch ≤ g.latest)
+    (λ x h. omega (arith, h)) latest held.here)
 
 before-next : (k n : ℕ) (grants : List Granted) → k < n → AllByRecursion (λ x. x.epoch ≤ k) grants
     → AllByRecursion (λ x. x.epoch < n) grants
@@ -34,11 +36,18 @@ of-latest k earlier latest below here =
     filter-append (λ (g : Granted). g.epoch == k) earlier latest ∙ (λ i. none-before k earlier below i ++ all-here k latest here i)
 
 -- no epoch above all of them lacks a name
-no-lack-above : (k e n : ℕ) (grants : List Granted) → k < e → AllByRecursion (λ x. x.epoch ≤ k) grants → Lacks grants e n → ⊥
-no-lack-above k e n grants h all lack = omega (arith, lack.0, ap length (none-before e grants (before-next k e grants h all)))
+no-lack-above : (k e n : ℕ) (grants : List Granted) → k < e → AllByRecursion (λ x. x.epoch ≤ k) grants
+    → Lacks grants e n → ⊥
+no-lack-above k e n grants h all lack = omega (
+  arith,
+  lack.0,
+  ap length
+      (none-before e grants (before-next k e grants h all)),
+)
 
 -- so the first gap of those up to the greatest is the first of those below any other
-gap-further : (k end : ℕ) (grants : List Granted) (gap : Option Gap) → k < end → AllByRecursion (λ x. x.epoch ≤ k) grants
+gap-further : (k end : ℕ) (grants : List Granted) (gap : Option Gap) → k < end
+    → AllByRecursion (λ x. x.epoch ≤ k) grants
     → IsGapBelow (k + 1) grants gap → IsGapBelow end grants gap
 gap-further k end grants None h all none = λ e n lt lack. elim (leb_tells e k) [
   | inl w ↦ none e n (omega (arith, w.1)) lack
@@ -54,17 +63,25 @@ gap-further k end grants (Some gap) h all least = record {
   least = least.least;
 }
 
-pub as-many : (f : Granted → ℕ) (latest : List Granted) (items : List Occurrence) → items ≡ occurrences_from 0 (map f latest)
+pub as-many : (f : Granted → ℕ) (latest : List Granted) (items : List Occurrence)
+    → items ≡ occurrences_from 0 (map f latest)
     → length items ≡ length latest
 as-many f latest items is = ap length is ∙ length-occurrences 0 (map f latest) ∙ length-map latest f
 
 -- what was seen, once a later epoch has come
-pub turned : {old new : Granting} {earlier latest : List Granted} → HoldsGrants old earlier latest → old.latest < new.latest
+pub turned : {old new : Granting} {earlier latest : List Granted} → HoldsGrants old earlier latest
+    → old.latest < new.latest
     → new.before ≡ old.before + length old.clients.items → new.clients.items ≡ [] → new.names.items ≡ []
     → IsGapBelow (old.latest + 1) (earlier ++ latest) new.gap → HoldsGrants new (earlier ++ latest) []
 turned {old = old} {new = new} {earlier = earlier} {latest = latest} held h before clients names gap =
     let all = up-to held in record {
-      before = omega (arith, before, held.before, as-many (λ x. x.client) latest old.clients.items held.clients, length-append earlier latest);
+      before = omega (
+        arith,
+        before,
+        held.before,
+        as-many (λ x. x.client) latest old.clients.items held.clients,
+        length-append earlier latest,
+      );
       below = before-next old.latest new.latest (earlier ++ latest) h all;
       here = tt;
       clients = clients ∙ no-occurrences 0;
@@ -74,7 +91,8 @@ turned {old = old} {new = new} {earlier = earlier} {latest = latest} held h befo
     }
 
 -- the form's cause
-pub form-back : (most : ℕ) (before : List Granted) (g : Granted) → (g.epoch < last_epoch before) ⊎ (most ≤ length before)
+pub form-back : (most : ℕ) (before : List Granted) (g : Granted)
+    → (g.epoch < last_epoch before) ⊎ (most ≤ length before)
     → form_cause most before g ≡ Some cause.Form
 unfolding form_cause
 form-back most before g h = grind (arith, nat_tests)
@@ -87,12 +105,14 @@ form-none most before g h few = grind (arith, nat_tests, h, few)
 -- the grants of an epoch, with one more
 pub of_same : (before : List Granted) (grant : Granted) (e : ℕ) → grant.epoch ≡ e
     → of_epoch e (before ++ grant ∷ []) ≡ of_epoch e before ++ grant ∷ []
-of_same before grant e same = filter-append (λ (g : Granted). g.epoch == e) before (grant ∷ []) ∙ rw (eq-eqb grant.epoch e same) refl
+of_same before grant e same = filter-append (λ (g : Granted). g.epoch == e) before (grant ∷ [])
+    ∙ rw (eq-eqb grant.epoch e same) refl
 
 pub of-other : (before : List Granted) (grant : Granted) (e : ℕ) → (grant.epoch ≡ e → ⊥)
     → of_epoch e (before ++ grant ∷ []) ≡ of_epoch e before
 of-other before grant e other =
-    filter-append (λ (g : Granted). g.epoch == e) before (grant ∷ []) ∙ rw (ne_eqb grant.epoch e other) (append-nil (of_epoch e before))
+    filter-append (λ (g : Granted). g.epoch == e) before (grant ∷ [])
+    ∙ rw (ne_eqb grant.epoch e other) (append-nil (of_epoch e before))
 
 gap-more : (before : List Granted) (grant : Granted) (gap : Option Gap) → IsGapBelow grant.epoch before gap
     → IsGapBelow grant.epoch (before ++ grant ∷ []) gap
@@ -151,15 +171,18 @@ seen-more ended latest count grants g t here = record {
     each : ((leb 1 count ≡ true) × (1 ≤ count)) ⊎ ((leb 1 count ≡ false) × (count < 1))
         → with_number (map (λ p. p.0) ended ++ latest_number latest count) latest ≡ map (λ p. p.0) ended ++ latest ∷ []
     each (inl w) = rw w.0 (rw (last-there latest (map (λ p. p.0) ended)) refl)
-    each (inr w) = rw (w.0, append-nil (map (λ (p : ℕ × ℕ). p.0) ended)) (rw (any-map (λ p. p.0) latest ended ∙ not-there (λ p. p.0) latest ended t.below) refl)
+    each (inr w) = rw (w.0, append-nil (map (λ (p : ℕ × ℕ). p.0) ended))
+        (rw (any-map (λ p. p.0) latest ended ∙ not-there (λ p. p.0) latest ended t.below) refl)
 
 -- the same of the latest epoch's grants, once it ended
-pub seen-latest : {g : Granting} {earlier latest : List Granted} (ended : List (ℕ × ℕ)) (next : ℕ) → HoldsGrants g earlier latest
+pub seen-latest : {g : Granting} {earlier latest : List Granted} (ended : List (ℕ × ℕ)) (next : ℕ)
+    → HoldsGrants g earlier latest
     → Tells g earlier latest → g.gap ≡ None → g.latest < next
     → ended ≡ map plain_named g.ended.items ++ latest_seen g.latest (length g.clients.items)
     → AreSeen ended next 0 (earlier ++ latest)
 seen-latest {g = g} {earlier = earlier} {latest = latest} ended next held tells none h is =
-    rw (is, as-many (λ x. x.client) latest g.clients.items held.clients) (seen-turn (map plain_named g.ended.items) g.latest (length latest) next (earlier ++ latest)
+    rw (is, as-many (λ x. x.client) latest g.clients.items held.clients)
+    (seen-turn (map plain_named g.ended.items) g.latest (length latest) next (earlier ++ latest)
     (tells none) (sym (ap length (of-latest g.latest earlier latest held.below held.here))) h)
 
 -- what is found at the end
@@ -178,7 +201,8 @@ module _ {old : Granting} {earlier latest : List Granted} (grant : Granted) (hel
       ap (λ (p : ℕ). occurrences_from 0 (map f latest) ++ occurrence (f grant) p ∷ []) place
       ∙ sym (occurrences-more 0 (map f latest) (f grant)) ∙ ap (occurrences_from 0) (sym (map-append f latest (grant ∷ [])))
 
-  pub added : {new : Granting} → new.latest ≡ old.latest → new.ended ≡ old.ended → new.gap ≡ old.gap → new.before ≡ old.before
+  pub added : {new : Granting} → new.latest ≡ old.latest → new.ended ≡ old.ended → new.gap ≡ old.gap
+      → new.before ≡ old.before
       → new.clients.items ≡ old.clients.items ++ occurrence grant.client (length old.clients.items) ∷ []
       → new.names.items ≡ old.names.items ++ occurrence grant.name (length old.clients.items) ∷ [] → Tells old earlier latest
       → IsChecked new earlier (latest ++ grant ∷ [])
@@ -220,7 +244,8 @@ module _ (k : ℕ) (earlier latest : List Granted) (below : AllByRecursion (λ x
   these : of_epoch g.epoch (earlier ++ take i latest) ≡ take i latest
   these = ap (λ (e : ℕ). of_epoch e (earlier ++ take i latest)) epoch
       ∙ of-latest k earlier (take i latest) below (recursion_from_All (λ (x : Granted). x.epoch ≡ k) (take i latest)
-      (All-take (λ (x : Granted). x.epoch ≡ k) i latest (All-from_recursion (λ (x : Granted). x.epoch ≡ k) latest here)))
+      (All-take (λ (x : Granted). x.epoch ≡ k) i latest
+      (All-from_recursion (λ (x : Granted). x.epoch ≡ k) latest here)))
 
   as_far : length (take i latest) ≡ i
   as_far = length-take-le i latest (omega (arith, within))
@@ -361,10 +386,10 @@ module _ (g : Granting) (earlier latest : List Granted) (held : HoldsGrants g ea
   }
 
 pub is-none : {gap : Option Gap} → is_some gap ≡ false → gap ≡ None
-is-none {gap = None} e = refl
-is-none {gap = Some gap} e = cc e
+is-none e = grind (arith, e)
 
 pub no_gap : {g : Granting} {earlier latest : List Granted} → HoldsGrants g earlier latest
     → IsGapBelow (g.latest + 1) (earlier ++ latest) None → (e n : ℕ) → Lacks (earlier ++ latest) e n → ⊥
 no_gap {g = g} {earlier = earlier} {latest = latest} held none e n lack =
-    gap-further g.latest (e + g.latest + 1) (earlier ++ latest) None (omega arith) (up-to held) none e n (omega arith) lack
+    gap-further g.latest (e + g.latest + 1) (earlier ++ latest) None (omega arith) (up-to held) none e n
+    (omega arith) lack

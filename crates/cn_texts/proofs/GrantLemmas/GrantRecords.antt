@@ -58,7 +58,8 @@ pub record Follow (most : ℕ) (before : List Granted) (records : List Record) (
 pub follow-none : (most : ℕ) (before : List Granted) → Follow most before [] []
 follow-none most before = record { spelled = refl; form = λ i h. absurd (omega (arith, h)) }
 
-pub follow-more : {most : ℕ} (before : List Granted) (records : List Record) (grants : List Granted) (fields : Record) (grant : Granted)
+pub follow-more : {most : ℕ} (before : List Granted) (records : List Record) (grants : List Granted) (fields : Record)
+    (grant : Granted)
     → Follow most before records grants → grant_spelled fields ≡ Some grant → form_cause most (before ++ grants) grant ≡ None
     → Follow most before (records ++ fields ∷ []) (grants ++ grant ∷ [])
 follow-more {most = most} before records grants fields grant follow is none = record {
@@ -68,7 +69,8 @@ follow-more {most = most} before records grants fields grant follow is none = re
       below_more (λ (k : ℕ). form_cause most (before ++ take k all) (get_or all k nobody) ≡ None) (length grants)
       (λ k l. (λ j. form_cause most (before ++ take-append-le k grants (grant ∷ []) (omega (arith, l)) j)
       (get_or_append_left grants (grant ∷ []) nobody k l j)) ∙ follow.form k l)
-      ((λ j. form_cause most (before ++ take-append_seam grants (grant ∷ []) j) (get_or-append_seam grants grant [] nobody j)) ∙ none)
+      ((λ j. form_cause most (before ++ take-append_seam grants (grant ∷ []) j)
+      (get_or-append_seam grants grant [] nobody j)) ∙ none)
       i (omega (arith, h, length-append grants (grant ∷ [])));
 }
 
@@ -114,10 +116,16 @@ module _ {most : ℕ} {done records : List Record} {before grants : List Granted
       let spelled = spelled-at grant_spelled Some records grants follow.spelled place nobody within in
       let caused : spelled_cause most (before ++ take place grants) (grant_spelled fields) ≡ Some twice.cause =
       ap (spelled_cause most (before ++ take place grants)) spelled
-      ∙ (λ i. first_cause (follow.form place within i) (twice_cause (before ++ take place grants) (own i))) ∙ twice.twice in
+      ∙ (λ i. first_cause (follow.form place within i) (twice_cause (before ++ take place grants) (own i)))
+      ∙ twice.twice in
       let inside : place < length records = omega (arith, within, as-many) in
       let number : length (done ++ take place records) ≡ length before + 1 + place =
-      omega (arith, length-append done (take place records), length-take-le place records (omega (arith, inside)), t.counted) in
+      omega (
+        arith,
+        length-append done (take place records),
+        length-take-le place records (omega (arith, inside)),
+        t.counted,
+      ) in
       rw twice.is (first-flaw most all (length before + 1 + place) twice.cause (rw (← number)
       (stop-in some.clean fields (drop (place + 1) records ++ more, is ∙ parted-at done records more place inside)
       (at-grants fields twice.cause some caused))))
@@ -125,8 +133,7 @@ module _ {most : ℕ} {done records : List Record} {before grants : List Granted
 -- the form's cause is the first
 pub form-first : (most : ℕ) (grants : List Granted) (spelled : Option Granted) (cause : GrantCause)
     → spelled_form most grants spelled ≡ Some cause → spelled_cause most grants spelled ≡ Some cause
-form-first most grants None cause e = e
-form-first most grants (Some g) cause e = ap (λ f. first_cause f (twice_cause grants g)) e
+form-first most grants spelled cause e = grind (arith, e)
 
 pub taken-gap : (most : ℕ) (all records : List Record) (grants : List Granted) (flaw : Flaw) → AreTaken most records grants → all ≡ records
     → IsEndFlaw grants flaw → IsFlaw most all flaw
@@ -150,13 +157,16 @@ taken-end items most all done before records grants (Ok epochs) start follow e (
     let t = taken-fresh start follow fresh in
     let of = grants_spelled (drop 1 all) in
     let spells : of ≡ before ++ grants = ap (λ (l : List Record). grants_spelled (drop 1 l)) e ∙ t.spells in
-    let list : IsTightList most all = rw e (list-tight most (done ++ records) (before ++ grants) (clean-all t.clean) t.spells t.once full) in
+    let list : IsTightList most all = rw e (list-tight most (done ++ records) (before ++ grants)
+    (clean-all t.clean) t.spells t.once full) in
     record {
       tight = list;
       printed = λ width.
           let shared : ℕ × ℕ → ℕ × ℕ × List ℕ = λ p. (p.0, p.1, shares p.1 width) in
-          let counts : (e : ℕ) → shares (length (of_epoch e of)) width ≡ counts_of width (map (λ (g : Granted). g.name) (of_epoch e of)) =
-          λ e. sym (counts-shares width (length (of_epoch e of)) (map (λ (g : Granted). g.name) (of_epoch e of)) (list.tight e).names) in
+          let counts : (e : ℕ) → shares (length (of_epoch e of)) width
+          ≡ counts_of width (map (λ (g : Granted). g.name) (of_epoch e of)) =
+          λ e. sym (counts-shares width (length (of_epoch e of)) (map (λ (g : Granted). g.name) (of_epoch e of))
+          (list.tight e).names) in
           sym (map-map shared plain_named (items epochs))
           ∙ ap (map shared) (found ∙ (λ i. map (named_epoch (sym spells i)) (epoch_numbers (sym spells i))))
           ∙ map-map shared (named_epoch of) (epoch_numbers of)
@@ -165,5 +175,6 @@ taken-end items most all done before records grants (Ok epochs) start follow e (
 taken-end items most all done before records grants (Err flaw) start follow e end found = elim end [
   | inl twice ↦ twice-flaw start follow all [] flaw (e ∙ sym (append-nil (done ++ records))) twice
   | inr (inl none) ↦ rw none tt
-  | inr (inr (fresh, gap)) ↦ taken-gap most all (done ++ records) (before ++ grants) flaw (taken-fresh start follow fresh) e gap
+  | inr (inr (fresh, gap)) ↦ taken-gap most all (done ++ records) (before ++ grants) flaw
+      (taken-fresh start follow fresh) e gap
 ]

@@ -95,7 +95,8 @@ cut : (b at : ℕ) → b < at + 1 → (b < at) ⊎ (b ≡ at)
 cut b at h = elim (leb_tells (suc b) at) [ inl w ↦ inl (omega (arith, w.1)) | inr w ↦ inr (omega (arith, w.1, h)) ]
 
 -- one index more, which does not
-pub seen-other : {s : List Occurrence} {at : ℕ} {first : Option ℕ} → IsSeen s at first → (number_at s (at - 1) ≡ number_at s at → ⊥)
+pub seen-other : {s : List Occurrence} {at : ℕ} {first : Option ℕ} → IsSeen s at first
+    → (number_at s (at - 1) ≡ number_at s at → ⊥)
     → IsSeen s (at + 1) first
 seen-other {s = s} {at = at} seen other = record {
   found = seen.found;
@@ -104,7 +105,8 @@ seen-other {s = s} {at = at} seen other = record {
 }
 
 -- one index more, which does
-pub seen-again : {s : List Occurrence} {at : ℕ} (first : Option ℕ) {place : ℕ} → IsSeen s at first → at < length s → IsAgain s at
+pub seen-again : {s : List Occurrence} {at : ℕ} (first : Option ℕ) {place : ℕ} → IsSeen s at first → at < length s
+    → IsAgain s at
     → place ≤ place_at s at → IfSome first (λ other. place ≤ other) → (place ≡ place_at s at) ⊎ (first ≡ Some place)
     → IsSeen s (at + 1) (Some place)
 seen-again {s = s} {at = at} None seen inside again low lower one = record {
@@ -126,7 +128,8 @@ seen-again {s = s} {at = at} (Some other) seen inside again low lower one = reco
 }
 
 -- at the end
-pub seen-all : {s : List Occurrence} {at : ℕ} {first : Option ℕ} → IsSeen s at first → length s ≤ at → IsSeen s (length s) first
+pub seen-all : {s : List Occurrence} {at : ℕ} {first : Option ℕ} → IsSeen s at first → length s ≤ at
+    → IsSeen s (length s) first
 seen-all seen past = record { found = seen.found; least = λ b h. seen.least b (omega (arith, h, past)) }
 
 module _ (ns : List ℕ) (s : List Occurrence) (order : IsPermutation (occurrences_from 0 ns) s)
@@ -199,7 +202,8 @@ module _ (ns : List ℕ) (s : List Occurrence) (order : IsPermutation (occurrenc
       let before : b - 1 < b = omega (arith, some) in
       let (within, here) = placed b h in
       let there = (placed (b - 1) (omega (arith, h))).1 in
-      let less = elim (leb_tells (suc (place_at s (b - 1))) (place_at s b)) as (λ _. place_at s (b - 1) < place_at s b) [
+      let less = elim (leb_tells (suc (place_at s (b - 1))) (place_at s b)) as
+      (λ _. place_at s (b - 1) < place_at s b) [
         | inl w ↦ w.1
         | inr w ↦ elim (in-turn (b - 1) b (omega arith) h) [
           | inl more ↦ absurd (omega (arith, more, e))
@@ -226,7 +230,8 @@ module _ (ns : List ℕ) (s : List Occurrence) (order : IsPermutation (occurrenc
       let before : k + 1 - 1 ≡ k = omega arith in
       elim (in-turn k (k + 1) (omega arith) (omega (arith, h, size))) [
         | inl less ↦ omega (arith, less, here, there)
-        | inr same ↦ absurd (seen.least (k + 1) (omega (arith, h, size)) (omega arith, ap (number_at s) before ∙ same.0))
+        | inr same ↦ absurd (seen.least (k + 1) (omega (arith, h, size))
+            (omega arith, ap (number_at s) before ∙ same.0))
       ]
 
 -- ---- the least number that is missing
@@ -235,7 +240,8 @@ module _ (ns : List ℕ) (s : List Occurrence) (order : IsPermutation (occurrenc
 pub missing-there : (ns : List ℕ) → IsStrictlyIncreasing ns → (at : ℕ) → at < length ns
     → ((k : ℕ) → k < at → get_or ns k 0 ≡ k) → (get_or ns at 0 ≡ at → ⊥) → has_number ns at ≡ false
 missing-there ns rising at h all other =
-    list_any_none (nat_eq at) ns (All-from_get_or (λ (n : ℕ). nat_eq at n ≡ false) ns 0 (λ i k. ne_eqb at (get_or ns i 0) (apart i k)))
+    list_any_none (nat_eq at) ns (All-from_get_or (λ (n : ℕ). nat_eq at n ≡ false) ns 0
+    (λ i k. ne_eqb at (get_or ns i 0) (apart i k)))
   where
     above : at < get_or ns at 0
     above = elim (leb_tells 1 at) [

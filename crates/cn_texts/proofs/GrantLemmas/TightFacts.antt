@@ -1,5 +1,5 @@
 -- A list is tight exactly where no record has a cause and no epoch lacks a name.
-use Rattle.cn_texts.proofs.Common.{nat_tests, ◌≡◌, ◌<◌, ◌≤◌, ℕ, List, [], ◌∷◌, ◌++◌, true, false, Option, Some, None, length, map, take, drop, get_or, refl, arith, suc, zero, sym, ap, ◌∙◌, inl, inr, subst, ◌==◌, ◌≢◌, cons_option, list_any, IfErr, MatchResult, Result, Ok, Err, map-append, filter_map-append, take-append-drop, length-map, filter-append, eq-eqb, eqb_tells, leb_tells, Record, none-some, times, times-append, times-nil, times-cons, IsClean, cause_by, first_cause, form_cause, grant_spelled, grants_spelled, has_client, has_name, of_epoch, spelled_cause, spelled_form, twice_cause, IsFirstWithCause, IsFlaw, IsOutside, AreTightGrants, IsTightList, Lacks, grants_cause, record_form, Granted, GrantCause, Flaw, Read, Form, DuplicateClient, DuplicateName, Gap, all_below, at_most_once, once_each, once-there}
+use Rattle.cn_texts.proofs.Common.{nat_tests, ◌≡◌, ◌<◌, ◌≤◌, ℕ, List, [], ◌∷◌, ◌++◌, true, false, Option, Some, None, length, map, take, drop, get_or, refl, arith, suc, zero, sym, ap, ◌∙◌, inl, inr, subst, ◌==◌, ◌≢◌, cons_option, list_any, IfErr, MatchResult, Result, Ok, Err, map-append, filter_map-append, take-append-drop, length-map, filter-append, eq-eqb, eqb_tells, leb_tells, Record, none-some, times, times-append, times-nil, times-cons, IsClean, cause_by, form_cause, grant_spelled, grants_spelled, has_client, has_name, of_epoch, spelled_cause, spelled_form, twice_cause, IsFirstWithCause, IsFlaw, IsOutside, AreTightGrants, IsTightList, Lacks, grants_cause, record_form, Granted, GrantCause, Flaw, Read, Form, DuplicateClient, DuplicateName, Gap, all_below, at_most_once, once_each, once-there}
 use Rattle.cn_texts.specs.Grants.TightList.{header_cause, record_cause}
 use Rattle.std.proofs.lemmas.Bool.{true_from_ne_false}
 use Rattle.std.proofs.Math.Seq.{drop-cons}
@@ -16,14 +16,10 @@ any-times f n gs h = present n (map f gs) (any-map f n gs ∙ h)
 none-times : (f : Granted → ℕ) (n : ℕ) (gs : List Granted) → list_any (λ g. n == f g) gs ≡ false → times n (map f gs) ≡ 0
 none-times f n gs h = absent n (map f gs) (any-map f n gs ∙ h)
 
--- of two causes none, where the first of them is none
-first_none : (a b : Option GrantCause) → first_cause a b ≡ None → (a ≡ None) × (b ≡ None)
-first_none (Some x) b e = absurd (none-some x (sym e))
-first_none None b e = (refl, e)
-
-twice-none : (before : List Granted) (g : Granted) → twice_cause before g ≡ None → has_client g.client (of_epoch g.epoch before) ≡ false
-unfolding twice_cause
-twice-none before g none = grind (arith, none)
+twice-none : (most : ℕ) (before : List Granted) (g : Granted) → spelled_cause most before (Some g) ≡ None
+    → has_client g.client (of_epoch g.epoch before) ≡ false
+unfolding form_cause twice_cause
+twice-none most before g none = grind (arith, none)
 
 -- no client stands twice in an epoch
 abbrev pub AreOnce : List Granted → Type 0
@@ -37,7 +33,7 @@ once-next most before g once none e n = elim (eqb_tells g.epoch e) [
 ]
   where
     free : has_client g.client (of_epoch g.epoch before) ≡ false
-    free = twice-none before g (first_none (form_cause most before g) (twice_cause before g) none).1
+    free = twice-none most before g none
 
     -- its own client is one more of those that stand there, of which it was none
     here : g.epoch ≡ e → times n (map (λ (g : Granted). g.client) (of_epoch e before ++ g ∷ [])) ≤ 1
@@ -50,7 +46,8 @@ once-next most before g once none e n = elim (eqb_tells g.epoch e) [
         (grind (arith, nat_tests, none, once e n, times-append n clients (g.client ∷ []), times-cons n g.client [], times-nil n))
 
 -- a cause that another implies
-weaker : (header : Record → Option GrantCause) (one other : List Record → Record → Option GrantCause) (records : List Record)
+weaker : (header : Record → Option GrantCause) (one other : List Record → Record → Option GrantCause)
+    (records : List Record)
     → ((n : ℕ) → 0 < n → n < length records → one (take n records) (get_or records n []) ≡ None
     → other (take n records) (get_or records n []) ≡ None)
     → (at : ℕ) → cause_by header one records at ≡ None → cause_by header other records at ≡ None
@@ -65,8 +62,7 @@ weaker header one other records less (suc m) e = elim (leb_tells (suc (suc m)) (
 
 form_of : (most : ℕ) (before : List Granted) (spelled : Option Granted) → spelled_cause most before spelled ≡ None
     → spelled_form most before spelled ≡ None
-form_of most before None e = e
-form_of most before (Some g) e = (first_none (form_cause most before g) (twice_cause before g) e).0
+form_of most before spelled e = grind (arith, e)
 
 -- an epoch that lacks no name is tight
 epoch-tight : (grants : List Granted) → ((n : ℕ) → times n (map (λ (g : Granted). g.client) grants) ≤ 1)
@@ -82,7 +78,8 @@ pub list-tight : (most : ℕ) (records : List Record) (grants : List Granted) �
     → grants_spelled (drop 1 records) ≡ grants → AreOnce grants → ((e n : ℕ) → Lacks grants e n → ⊥) → IsTightList most records
 list-tight most records grants clean spells once full = record {
   form = λ at. weaker header_cause (record_cause most) (record_form most) records
-      (λ n some h. form_of most (grants_spelled (drop 1 (take n records))) (grant_spelled (get_or records n []))) at (clean at);
+      (λ n some h. form_of most (grants_spelled (drop 1 (take n records))) (grant_spelled (get_or records n []))) at
+      (clean at);
   tight = λ e. rw spells (epoch-tight (of_epoch e grants) (once e)
       (λ n h. true_from_ne_false (has_name n (of_epoch e grants)) (λ f. full e n (h, f))));
 }
@@ -125,13 +122,15 @@ module _ (gb gm : List Granted) (g : Granted) (tight : AreTightGrants (of_epoch 
 grants-round : (records : List Record) (m : ℕ) (g : Granted) → m < length records → grant_spelled (get_or records m []) ≡ Some g
     → grants_spelled records ≡ grants_spelled (take m records) ++ g ∷ grants_spelled (drop (suc m) records)
 grants-round records m g h is =
-    ap grants_spelled (sym (take-append-drop m records) ∙ ap (λ (l : List Record). take m records ++ l) (drop-cons records m [] h))
+    ap grants_spelled (sym (take-append-drop m records)
+    ∙ ap (λ (l : List Record). take m records ++ l) (drop-cons records m [] h))
     ∙ filter_map-append grant_spelled (take m records) (get_or records m [] ∷ drop (suc m) records)
     ∙ (λ i. grants_spelled (take m records) ++ cons_option (is i) (grants_spelled (drop (suc m) records)))
 
 at-record : (most : ℕ) (records : List Record) (n : ℕ) → 0 < n → n < length records
     → ((epoch : ℕ) → AreTightGrants (of_epoch epoch (grants_spelled (drop 1 records))))
-    → record_form most (take n records) (get_or records n []) ≡ None → record_cause most (take n records) (get_or records n []) ≡ None
+    → record_form most (take n records) (get_or records n []) ≡ None
+    → record_cause most (take n records) (get_or records n []) ≡ None
 at-record most [] n some h tight = absurd (omega arith)
 at-record most (r ∷ records) zero some h tight = absurd (omega arith)
 at-record most (r ∷ records) (suc m) some h tight = each (grant_spelled (get_or records m [])) refl
@@ -142,11 +141,13 @@ at-record most (r ∷ records) (suc m) some h tight = each (grant_spelled (get_o
     each None is e = e
     each (Some g) is e =
         rw e (no-twice (grants_spelled (take m records)) (grants_spelled (drop (suc m) records)) g
-        (subst (λ (l : List Granted). AreTightGrants (of_epoch g.epoch l)) (grants-round records m g (omega (arith, h)) is) (tight g.epoch)))
+        (subst (λ (l : List Granted). AreTightGrants (of_epoch g.epoch l))
+        (grants-round records m g (omega (arith, h)) is) (tight g.epoch)))
 
 tight-clean : (most : ℕ) (records : List Record) → IsTightList most records → IsClean (grants_cause most) records
 tight-clean most records t at =
-    weaker header_cause (record_form most) (record_cause most) records (λ n some h. at-record most records n some h t.tight) at (t.form at)
+    weaker header_cause (record_form most) (record_cause most) records
+    (λ n some h. at-record most records n some h t.tight) at (t.form at)
 
 tight-full : (grants : List Granted) → AreTightGrants grants → (n : ℕ) → n < length grants → has_name n grants ≡ false → ⊥
 tight-full grants t n h e =

@@ -8,15 +8,24 @@ use Rattle.cn_texts.proofs.ReadingLemmas.FirstFaults.{stop-other, stop-in}
 use Rattle.cn_texts.proofs.ReadingLemmas.RecordLists.{read-first}
 
 -- a stretch that ends so after records that were read
-pub stretch-read : {R : Type 0} {remaining : R → Option (List ℕ)} {old new : Reader R} {heading : Heading} {bounds : Bounds}
-    {text : List ℕ} {before : List Record} (records : List Record) {arrivals : List Arrival} {end : Result Bool BatchCause}
+pub stretch-read : {R : Type 0} {remaining : R → Option (List ℕ)} {old new : Reader R} {heading : Heading}
+    {bounds : Bounds}
+    {text : List ℕ} {before : List Record} (records : List Record) {arrivals : List Arrival}
+    {end : Result Bool BatchCause}
     → AreSpelled heading bounds records arrivals → HasRead remaining old text (before ++ records)
     → EndsAfter remaining new heading bounds text (before ++ records) end
     → HasStretch remaining new heading bounds text before arrivals end
-stretch-read records spelled read ends = record { records = records; spelled = spelled; first = read-first read; ends = ends }
+stretch-read records spelled read ends = record {
+  records = records;
+  spelled = spelled;
+  first = read-first read;
+  ends =
+      ends;
+}
 
 -- what is read later still has the same header
-pub same-header : {R : Type 0} {old mid new : ArrivalReader R} → HasSameHeader old mid → HasSameHeader mid new → HasSameHeader old new
+pub same-header : {R : Type 0} {old mid new : ArrivalReader R} → HasSameHeader old mid → HasSameHeader mid new
+    → HasSameHeader old new
 same-header first second = record { heading = second.heading ∙ first.heading; bounds = second.bounds ∙ first.bounds }
 
 -- the records that were read have no cause, and their arrivals were gathered
@@ -40,7 +49,8 @@ module _ {R : Type 0} {remaining : R → Option (List ℕ)} {source : ArrivalRea
     gathered = none;
   }
 
-  module _ {old new : ArrivalReader R} {arrivals : List Arrival} {end : Result Bool BatchCause} (same : HasSameHeader source old)
+  module _ {old new : ArrivalReader R} {arrivals : List Arrival} {end : Result Bool BatchCause}
+      (same : HasSameHeader source old)
       (t : HasTaken remaining source.heading source.bounds text old.records.value g)
       (reads : ReadsStretch remaining old new arrivals end) where
     -- the stretch that was read after them
@@ -49,7 +59,8 @@ module _ {R : Type 0} {remaining : R → Option (List ℕ)} {source : ArrivalRea
 
     ends : {x : Result Bool BatchCause} → end ≡ x
         → EndsAfter remaining new.records.value source.heading source.bounds text (t.records ++ stretch.records) x
-    ends e = subst (EndsAfter remaining new.records.value source.heading source.bounds text (t.records ++ stretch.records)) e stretch.ends
+    ends e = subst (EndsAfter remaining new.records.value source.heading source.bounds text
+        (t.records ++ stretch.records)) e stretch.ends
 
     module _ {h : Gathering} (gathers : Gathers source.bounds arrivals g h (Ok tt)) where
       both : AreTaken source.heading source.bounds (t.records ++ stretch.records) (t.came ++ arrivals)
@@ -67,7 +78,8 @@ module _ {R : Type 0} {remaining : R → Option (List ℕ)} {source : ArrivalRea
       }
 
       -- or there are no other records
-      pub at-end : end ≡ Ok false → (came : List Arrival) × AreTaken source.heading source.bounds (records_of text) came × IsGathered h came
+      pub at-end : end ≡ Ok false → (came : List Arrival) × AreTaken source.heading source.bounds (records_of text) came
+          × IsGathered h came
       at-end e = (t.came ++ arrivals, rw (ends e) both.0, both.1)
 
       -- or the next has a cause

@@ -19,14 +19,16 @@ taken-header {bounds = bounds} fields e = record {
 }
 
 -- what a record spells after those before it, by the arrivals before it
-pub spelled-same : {heading : Heading} {bounds : Bounds} {records : List Record} {arrivals : List Arrival} (fields : Record)
+pub spelled-same : {heading : Heading} {bounds : Bounds} {records : List Record} {arrivals : List Arrival}
+    (fields : Record)
     → AreTaken heading bounds records arrivals
     → record_cause bounds records fields ≡ spelled_cause bounds arrivals (arrival_in heading bounds fields)
 spelled-same {heading = heading} {bounds = bounds} {records = records} fields t =
     ap (λ (h : Heading). spelled_cause bounds (arrivals_in h bounds (drop 1 records)) (arrival_in h bounds fields)) t.headed
     ∙ (λ i. spelled_cause bounds (t.spells i) (arrival_in heading bounds fields))
 
-pub taken-next : {heading : Heading} {bounds : Bounds} (records : List Record) (arrivals : List Arrival) (fields : Record)
+pub taken-next : {heading : Heading} {bounds : Bounds} (records : List Record) (arrivals : List Arrival)
+    (fields : Record)
     (arrival : Arrival) → AreTaken heading bounds records arrivals
     → arrival_in heading bounds fields ≡ Ok arrival → arrival_cause bounds arrivals arrival ≡ None
     → AreTaken heading bounds (records ++ fields ∷ []) (arrivals ++ arrival ∷ [])
@@ -34,13 +36,19 @@ taken-next [] arrivals fields arrival t is none = absurd (omega (arith, t.some))
 taken-next {heading = heading} {bounds = bounds} (r ∷ records) arrivals fields arrival t is none = record {
   headed = t.headed;
   some = omega (arith, length-append (r ∷ records) (fields ∷ []));
-  clean = (clean-more fields (clean-of t) (spelled-same fields t ∙ (λ i. spelled_cause bounds arrivals (is i)) ∙ none)).clean;
+  clean = (clean-more fields (clean-of t) (spelled-same fields t ∙ (λ i. spelled_cause bounds arrivals (is i))
+      ∙ none)).clean;
   spells = filter_map-append (λ (given : Record). result_ok (arrival_in heading bounds given)) records (fields ∷ [])
       ∙ (λ i. t.spells i ++ cons_option (result_ok (is i)) []);
   counted = omega (arith, t.counted, length-append arrivals (arrival ∷ []), length-append (r ∷ records) (fields ∷ []));
 }
 
-pub taken_all : {heading : Heading} {bounds : Bounds} (records : List Record) {arrivals : List Arrival} {epochs : List BatchEpoch}
+pub taken_all : {heading : Heading} {bounds : Bounds} (records : List Record) {arrivals : List Arrival}
+    {epochs : List BatchEpoch}
     → AreTaken heading bounds records arrivals → AreEpochsOf epochs arrivals → IsBatch bounds records epochs
 taken_all {bounds = bounds} records t are =
-    record { clean = clean-all (clean-of t); holds = rw ((λ i. arrivals_in (t.headed i) bounds (drop 1 records)) ∙ t.spells) are }
+    record {
+      clean = clean-all (clean-of t);
+      holds = rw
+          ((λ i. arrivals_in (t.headed i) bounds (drop 1 records)) ∙ t.spells) are;
+    }

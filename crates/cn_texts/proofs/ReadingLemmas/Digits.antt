@@ -1,5 +1,5 @@
 -- What digits are worth.
-use Rattle.cn_texts.proofs.Common.{◌≡◌, sym, ◌+◌, ◌*◌, ◌-◌, ◌%◌, ◌&&◌, ◌∙◌, ◌<◌, ◌≤◌, ◌^◌, ℕ, suc, List, [], ◌∷◌, true, false, ap, drop, get_or, length, refl, arith, Some, None, if◌then◌else◌, Option, nat_le, nat_lt, list_all, nat_tests, digit_value, is_ascii_digit, digits_value, digits_value_after, value_in}
+use Rattle.cn_texts.proofs.Common.{◌≡◌, sym, ◌+◌, ◌*◌, ◌-◌, ◌%◌, ◌&&◌, ◌∙◌, ◌<◌, ◌≤◌, ◌^◌, ℕ, suc, List, [], ◌∷◌, true, ap, drop, get_or, length, refl, arith, Some, None, if◌then◌else◌, Option, list_all, nat_tests, digit_value, is_ascii_digit, digits_value, digits_value_after, value_in}
 use Rattle.std.proofs.lemmas.Option.{cond_some}
 use Rattle.std.proofs.Math.Nat.{pow-le-pow_right, pow-suc, pow-succ', pow-zero}
 
@@ -64,14 +64,8 @@ with_lead ds lead rest digit value led is worth some =
     let after = cond_some _ _ _ (sym some) in
     record { digits = led.all ∙ rw (is, after.0) refl; worth = omega (arith, led.worth, worth, after.1) }
 
-within : (n v : ℕ) → 0 < n → v < 2 ^ 64 → (nat_le 1 n && nat_lt v (2 ^ 64)) ≡ true
-within n v some small = grind (arith, nat_tests)
-
-beyond : (n v : ℕ) → 2 ^ 64 ≤ v → (nat_le 1 n && nat_lt v (2 ^ 64)) ≡ false
-beyond n v large = grind (arith, nat_tests)
-
 pub small-whole : (ds : List ℕ) (v : ℕ) → 0 < length ds → IsWhole ds v → v < 2 ^ 64 → Some v ≡ whole_value ds
-small-whole ds v some whole small = rw (whole.digits, whole.worth, within (length ds) v some small) refl
+small-whole ds v some whole small = grind (arith, nat_tests, whole.digits, whole.worth)
 
 pub large-whole : (ds : List ℕ) (v : ℕ) → IsWhole ds v → 2 ^ 64 ≤ v → None ≡ whole_value ds
-large-whole ds v whole large = rw (whole.digits, whole.worth, beyond (length ds) v large) refl
+large-whole ds v whole large = grind (arith, nat_tests, whole.digits, whole.worth)

@@ -1,9 +1,10 @@
 -- The records that were taken so far, none of which has a cause.
-use Rattle.cn_texts.proofs.Common.{◌≡◌, ◌<◌, ◌≤◌, ℕ, List, [], ◌∷◌, ◌++◌, Option, Some, None, length, get_or, take, refl, arith, suc, zero, sym, subst, ◌∙◌, inl, inr, length-append, IfSome, lt-ltb, le-ltb, ne_eqb, leb_tells, take-append-le, Record, get_or-append, get_or-append_seam, take-append_seam, IsClean, IsCleanBefore, IsFirstFault, cause_by}
+use Rattle.cn_texts.proofs.Common.{◌≡◌, ◌<◌, ◌≤◌, ℕ, List, [], ◌∷◌, ◌++◌, Option, Some, None, length, get_or, take, refl, arith, suc, subst, ◌∙◌, inl, inr, length-append, IfSome, lt-ltb, le-ltb, ne_eqb, nat_tests, leb_tells, take-append-le, Record, get_or-append, get_or-append_seam, take-append_seam, IsClean, IsCleanBefore, IsFirstFault, cause_by}
 use borrow.Author.Count.{below_more}
 
 -- the records so far: a header, and none has a cause
-pub record AreClean {C : Type 0} (header : Record → Option C) (later : List Record → Record → Option C) (records : List Record)
+pub record AreClean {C : Type 0} (header : Record → Option C) (later : List Record → Record → Option C)
+    (records : List Record)
     : Type 0 where
   pub some : 0 < length records
   pub clean : IsCleanBefore (cause_by header later) records (length records)
@@ -19,12 +20,14 @@ module _ {C : Type 0} (header : Record → Option C) (later : List Record → Re
   cause-same : (records more : List Record) (n : ℕ) → n < length records
       → cause_by header later (records ++ more) n ≡ cause_by header later records n
   unfolding cause_by
-  cause-same [] more n h = absurd (omega arith)
-  cause-same (r ∷ records) more zero h = refl
-  cause-same (r ∷ records) more (suc n) h =
-      cause_later ((r ∷ records) ++ more) (suc n) (omega arith) (omega (arith, length-append (r ∷ records) more))
-      ∙ (λ i. later (take-append-le (suc n) (r ∷ records) more (omega (arith, h)) i) (get_or-append (r ∷ records) more [] (suc n) h i))
-      ∙ sym (cause_later (r ∷ records) (suc n) (omega arith) h)
+  cause-same records more n h = grind (
+    arith,
+    nat_tests,
+    length-append records more,
+    take-append-le n records more (omega (arith, h)),
+    get_or-append records more [] n h,
+    get_or-append records more [] 0 (omega (arith, h)),
+  )
 
   -- a record after the header is judged after those before it
   cause-new : (records : List Record) (fields : Record) → 0 < length records
@@ -50,16 +53,19 @@ module _ {C : Type 0} {header : Record → Option C} {later : List Record → Re
   unfolding cause_by
   clean-header fields e = record {
     some = omega arith;
-    clean = λ at h. subst (λ (n : ℕ). cause_by header later (fields ∷ []) n ≡ None) (let first : 0 ≡ at = omega arith in first) e;
+    clean = λ at h. subst (λ (n : ℕ). cause_by header later (fields ∷ []) n ≡ None)
+        (let first : 0 ≡ at = omega arith in first) e;
   }
 
   -- and a record after it
-  pub clean-more : {records : List Record} (fields : Record) → AreClean header later records → later records fields ≡ None
+  pub clean-more : {records : List Record} (fields : Record) → AreClean header later records
+      → later records fields ≡ None
       → AreClean header later (records ++ fields ∷ [])
   clean-more {records = records} fields t e = record {
     some = omega (arith, length-append records (fields ∷ []));
     clean = λ at h. below_more (λ (n : ℕ). cause_by header later (records ++ fields ∷ []) n ≡ None) (length records)
-        (λ n k. cause-same header later records (fields ∷ []) n k ∙ t.clean n k) (cause-new header later records fields t.some ∙ e) at
+        (λ n k. cause-same header later records (fields ∷ []) n k ∙ t.clean n k)
+        (cause-new header later records fields t.some ∙ e) at
         (omega (arith, h, length-append records (fields ∷ [])));
   }
 
@@ -73,13 +79,15 @@ module _ {C : Type 0} {header : Record → Option C} {later : List Record → Re
   module _ {IsOther : C → Type 0} {all : List Record} {why : C} where
     module _ {records : List Record} (t : AreClean header later records) where
       -- after records without one a record has a cause, whatever comes after it
-      pub stop-in : (fields : Record) → (more : List Record) × (all ≡ (records ++ fields ∷ []) ++ more) → later records fields ≡ Some why
+      pub stop-in : (fields : Record) → (more : List Record) × (all ≡ (records ++ fields ∷ []) ++ more)
+          → later records fields ≡ Some why
           → IsFirstFault (cause_by header later) IsOther all (length records) why
       stop-in fields (more, is) e =
           let size = length-append records (fields ∷ []) in
           rw is (record {
             within = omega (arith, size, length-append (records ++ fields ∷ []) more);
-            clean = λ n h. cause-same header later (records ++ fields ∷ []) more n (omega (arith, h, size)) ∙ cause-same header later records (fields ∷ []) n h
+            clean = λ n h. cause-same header later (records ++ fields ∷ []) more n (omega (arith, h, size))
+                ∙ cause-same header later records (fields ∷ []) n h
                 ∙ t.clean n h;
             reported = inl (cause-same header later (records ++ fields ∷ []) more (length records) (omega (arith, size))
                 ∙ cause-new header later records fields t.some ∙ e);

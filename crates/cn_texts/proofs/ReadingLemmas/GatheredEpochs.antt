@@ -1,5 +1,5 @@
 -- The epochs that were gathered, as arrivals.
-use Rattle.cn_texts.proofs.Common.{◌≡◌, ◌<◌, ◌≤◌, ◌+◌, ℕ, List, [], ◌∷◌, ◌++◌, false, Some, length, map, refl, arith, sym, ap, ◌∙◌, inl, inr, append_assoc, length-append, ◌==◌, nat_eq, nat_le, nat_lt, AllByRecursion, flat_map, list_any, map-append, length-map, append-nil, filter-append, fold-append, lt-ltb, le-ltb, le-leb, lt-leb, ne_eqb, eq-eqb, leb_tells, nat_tests, flat_map-append, Client, EpochBackwards, EntryRange, Arrival, BatchEpoch, Gathering, arrival_cause, AreEpochsOf, AreRising, arrivals_of, Bounds, HoldsArrivals, IsGathered, adding_cause, ended_after}
+use Rattle.cn_texts.proofs.Common.{◌≡◌, ◌<◌, ◌≤◌, ◌+◌, ℕ, List, [], ◌∷◌, ◌++◌, false, length, map, refl, arith, sym, ap, ◌∙◌, inl, inr, append_assoc, length-append, ◌==◌, nat_eq, nat_le, nat_lt, AllByRecursion, flat_map, list_any, map-append, length-map, append-nil, filter-append, fold-append, le-ltb, lt-leb, ne_eqb, eq-eqb, leb_tells, nat_tests, flat_map-append, Client, Arrival, BatchEpoch, Gathering, arrival_cause, AreEpochsOf, AreRising, arrivals_of, Bounds, HoldsArrivals, IsGathered, adding_cause, ended_after}
 use Rattle.cn_texts.specs.Reading.Arrival.{last_epoch, of_epoch}
 use Rattle.std.proofs.lemmas.List.{nil_from_length}
 use Rattle.cn_texts.proofs.Each.{each-append, each-weaker}
@@ -33,18 +33,6 @@ same_clients : (n x : ℕ) (cs : List Client)
 same_clients n x [] = refl
 same_clients n x (c ∷ cs) = rw (same_clients n x cs) refl
 
--- an arrival of an epoch below the last goes backwards
-pub backwards : (bounds : Bounds) (before : List Arrival) (a : Arrival) → a.epoch < last_epoch before
-    → arrival_cause bounds before a ≡ Some EpochBackwards
-unfolding arrival_cause
-backwards bounds before a h = rw (lt-ltb a.epoch (last_epoch before) h) refl
-
--- the entry of another is out of range
-pub out_of_range : (bounds : Bounds) (before : List Arrival) (a : Arrival) → last_epoch before ≤ a.epoch → bounds.entries ≤ a.entry
-    → arrival_cause bounds before a ≡ Some EntryRange
-unfolding arrival_cause
-out_of_range bounds before a h out = rw (le-ltb a.epoch (last_epoch before) h, le-leb bounds.entries a.entry out) refl
-
 pub rising_more : (es : List BatchEpoch) (e : BatchEpoch) → AreRising es → AllByRecursion (λ x. x.number < e.number) es
     → AreRising (es ++ e ∷ [])
 unfolding AreRising
@@ -64,7 +52,8 @@ once-ended g P none some = elim (leb_tells 1 (length g.latest.clients.items)) [
 pub ended-below : (g : Gathering) (n : ℕ) → g.latest.number < n → AllByRecursion (λ x. x.number < g.latest.number) g.ended.items
     → AllByRecursion (λ x. x.number < n) (ended_after g)
 ended-below g n h below =
-    let all = each-weaker (λ (x : BatchEpoch). x.number < g.latest.number) (λ x. x.number < n) (λ x l. omega (arith, l, h)) g.ended.items
+    let all = each-weaker (λ (x : BatchEpoch). x.number < g.latest.number) (λ x. x.number < n)
+    (λ x l. omega (arith, l, h)) g.ended.items
     below in
     once-ended g (AllByRecursion (λ x. x.number < n)) (λ none. all)
     (λ some. each-append (λ x. x.number < n) g.ended.items (g.latest ∷ []) all (h, tt))
@@ -89,7 +78,8 @@ module _ {g : Gathering} {before : List Arrival} (held : HoldsArrivals g before)
       → adding_cause bounds g (client_of a) ≡ arrival_cause bounds before a
   unfolding arrival_cause
   reported-of bounds a here last within size =
-      let full : nat_lt bounds.records (length before + 1) ≡ nat_le bounds.records (length before) = grind (arith, nat_tests) in
+      let full : nat_lt bounds.records (length before + 1)
+      ≡ nat_le bounds.records (length before) = grind (arith, nat_tests) in
       rw (
         ← here,
         le-ltb g.latest.number (last_epoch before) (omega (arith, here, last)),
@@ -104,7 +94,8 @@ module _ {g : Gathering} {before : List Arrival} (held : HoldsArrivals g before)
   -- that arrival more
   pub taken_of : {new : Gathering} (a : Arrival) → g.latest.number ≡ a.epoch → new.ended ≡ g.ended
       → new.latest.number ≡ g.latest.number
-      → new.latest.clients.items ≡ g.latest.clients.items ++ client_of a ∷ [] → new.standing.keys ≡ g.standing.keys ++ a.client ∷ []
+      → new.latest.clients.items ≡ g.latest.clients.items ++ client_of a ∷ []
+      → new.standing.keys ≡ g.standing.keys ++ a.client ∷ []
       → new.next ≡ length before + 2 → IsGathered new (before ++ a ∷ [])
   taken_of a here ended number clients keys next = record {
     holds = record {
@@ -119,7 +110,8 @@ module _ {g : Gathering} {before : List Arrival} (held : HoldsArrivals g before)
       some = rw ended held.some;
       below = rw (ended, number) held.below;
       standing = keys ∙ ap (λ (l : List ℕ). l ++ a.client ∷ []) held.standing
-          ∙ sym (map-append (λ (c : Client). c.id) g.latest.clients.items (client_of a ∷ [])) ∙ ap (map (λ (c : Client). c.id)) (sym clients);
+          ∙ sym (map-append (λ (c : Client). c.id) g.latest.clients.items (client_of a ∷ []))
+          ∙ ap (map (λ (c : Client). c.id)) (sym clients);
     };
     last = fold-append (λ (epoch : ℕ) (a : Arrival). a.epoch) 0 before (a ∷ []) ∙ sym (number ∙ here);
     next = omega (arith, next, length-append before (a ∷ []));
@@ -131,7 +123,8 @@ module _ {g : Gathering} {before : List Arrival} (held : HoldsArrivals g before)
     rising = held.rising;
     some = held.some;
     spells = sym (append-nil (flat_map arrivals_of g.ended.items))
-        ∙ (λ i. flat_map arrivals_of g.ended.items ++ map (arrival_at g.latest.number) (sym (nil_from_length g.latest.clients.items none) i))
+        ∙ (λ i. flat_map arrivals_of g.ended.items
+        ++ map (arrival_at g.latest.number) (sym (nil_from_length g.latest.clients.items none) i))
         ∙ held.spells;
   }) (λ some. record {
     rising = rising_more g.ended.items g.latest held.rising held.below;
@@ -153,7 +146,8 @@ module _ {g : Gathering} {before : List Arrival} (held : HoldsArrivals g before)
   }
 
 -- at the start there is none
-pub none-gathered : {g : Gathering} → g.ended.items ≡ [] → g.latest.clients.items ≡ [] → g.latest.number ≡ 0 → g.standing.keys ≡ []
+pub none-gathered : {g : Gathering} → g.ended.items ≡ [] → g.latest.clients.items ≡ [] → g.latest.number ≡ 0
+    → g.standing.keys ≡ []
     → g.next ≡ 1 → IsGathered g []
 unfolding AreRising
 none-gathered ended clients number keys next = record {

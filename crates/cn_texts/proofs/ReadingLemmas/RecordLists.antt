@@ -1,5 +1,5 @@
 -- The list of the records of a text, and the records that were read so far.
-use Rattle.cn_texts.proofs.Common.{◌≡◌, ◌<◌, ◌≤◌, ◌+◌, ◌-◌, ℕ, List, [], ◌∷◌, ◌++◌, true, false, Bool, Option, Some, None, length, refl, arith, suc, zero, sym, ap, inl, inr, nat_tests, ◌∙◌, subst, append-nil, append_assoc, drop, drop_more, get_or, get_or-map, length-map, map, map-append, take, take-append-drop, IfSome, option_map, HasRead, Record, records_of, Reached, ReadRecord, default_config, reader_config, reader_state, records_from, source_of, strip_bom, Reader}
+use Rattle.cn_texts.proofs.Common.{◌≡◌, ◌<◌, ◌≤◌, ◌+◌, ◌-◌, ℕ, List, [], ◌∷◌, ◌++◌, true, false, Bool, Option, Some, None, length, refl, arith, suc, zero, sym, ap, inl, inr, nat_tests, ◌∙◌, subst, append-nil, field_at, append_assoc, drop, drop_more, get_or, get_or-map, length-map, map, map-append, take, take-append-drop, IfSome, option_map, HasRead, Record, records_of, Reached, ReadRecord, default_config, reader_config, reader_state, records_from, source_of, strip_bom, Reader}
 use Rattle.csv.specs.Machine.{Read, ends_at_end, field_after, fields_after, is_end, next_record, step}
 use Rattle.std.specs.Bool.{MatchBool}
 use Rattle.std.proofs.lemmas.Bool.{cases_Bool}
@@ -9,7 +9,8 @@ use Rattle.csv.specs.declared.parser.State.{State}
 use Rattle.csv.specs.declared.parser.State.TheVariants as st
 
 -- where a step ends a record, the end of the text ends no other
-step-ends : (s : State) (c : ℕ) → is_end (step default_config s c).1 ≡ true → ends_at_end (step default_config s c).0 ≡ false
+step-ends : (s : State) (c : ℕ) → is_end (step default_config s c).1 ≡ true
+    → ends_at_end (step default_config s c).0 ≡ false
 step-ends s c e = grind (arith, nat_tests)
 
 -- after a record the end of the text ends no other, and at least one byte is taken where there is one
@@ -41,7 +42,8 @@ record-takes s [] p idle e = cc (rw idle at e)
 record-takes s (c ∷ rest) p idle e = omega (arith, (after-record s [] [] (c ∷ rest) p e).1)
 
 -- the records that were read are the first of all
-first-records : (records : List (List (List ℕ))) (n : ℕ) (s s2 : State) (xs ys : List ℕ) → ends_at_end s ≡ false → length xs < n
+first-records : (records : List (List (List ℕ))) (n : ℕ) (s s2 : State) (xs ys : List ℕ) → ends_at_end s ≡ false
+    → length xs < n
     → Reached default_config s xs records s2 ys
     → (m : ℕ) × (records_from default_config n s xs ≡ records ++ records_from default_config (suc m) s2 ys)
 unfolding Reached records_from
@@ -54,7 +56,8 @@ first-records (r ∷ records) (suc n) s s2 xs ys idle h reached =
     (more.0, rw (read, is) (ap (λ (t : List (List (List ℕ))). p.0 ∷ t) more.1))
 
 -- where no record is left they are all
-all-records : (records : List (List (List ℕ))) (n : ℕ) (s s2 : State) (xs ys : List ℕ) → ends_at_end s ≡ false → length xs < n
+all-records : (records : List (List (List ℕ))) (n : ℕ) (s s2 : State) (xs ys : List ℕ) → ends_at_end s ≡ false
+    → length xs < n
     → Reached default_config s xs records s2 ys
     → next_record default_config s2 [] [] ys ≡ None → records_from default_config n s xs ≡ records
 unfolding records_from
@@ -93,18 +96,21 @@ read-either rem a b text records fields false read next =
 
 -- ---- records and what they spell, one each
 
-module _ {S T : Type 0} (f : Record → S) (w : T → S) (records : List Record) (items : List T) (spelled : map f records ≡ map w items) where
+module _ {S T : Type 0} (f : Record → S) (w : T → S) (records : List Record) (items : List T)
+    (spelled : map f records ≡ map w items) where
   pub same-length : length records ≡ length items
   same-length = sym (length-map records f) ∙ ap length spelled ∙ length-map items w
 
   -- the record at a place spells the item there
   pub spelled-at : (i : ℕ) (item : T) → i < length items → f (get_or records i []) ≡ w (get_or items i item)
   spelled-at i item h =
-      sym (get_or-map f records i [] (w item) (omega (arith, h, same-length))) ∙ ap (λ (l : List S). get_or l i (w item)) spelled
+      sym (get_or-map f records i [] (w item) (omega (arith, h, same-length)))
+      ∙ ap (λ (l : List S). get_or l i (w item)) spelled
       ∙ get_or-map w items i item (w item) h
 
   -- a record more spells an item more
-  pub spelled-more : (fields : Record) (item : T) → f fields ≡ w item → map f (records ++ fields ∷ []) ≡ map w (items ++ item ∷ [])
+  pub spelled-more : (fields : Record) (item : T) → f fields ≡ w item
+      → map f (records ++ fields ∷ []) ≡ map w (items ++ item ∷ [])
   spelled-more fields item is =
       map-append f records (fields ∷ []) ∙ (λ i. spelled i ++ is i ∷ []) ∙ sym (map-append w items (item ∷ []))
 
@@ -115,8 +121,16 @@ parted before records later i =
     ap (λ (l : List Record). (before ++ l) ++ later) (sym (take-append-drop i records)) ∙ simp append_assoc
 
 pub parted-at : (before records later : List Record) (i : ℕ) → i < length records
-    → (before ++ records) ++ later ≡ ((before ++ take i records) ++ get_or records i [] ∷ []) ++ (drop (i + 1) records ++ later)
+    → (before ++ records) ++ later ≡ ((before ++ take i records) ++ get_or records i [] ∷ [])
+    ++ (drop (i + 1) records ++ later)
 parted-at before records later i h =
     parted before records later i
     ∙ ap (λ (l : List Record). (before ++ take i records) ++ (l ++ later)) (drop_more records i [] h)
     ∙ sym (append_assoc (before ++ take i records) (get_or records i [] ∷ []) (drop (i + 1) records ++ later))
+
+-- the field at a place of a record
+pub field_within : (fields : List (List ℕ)) (place : ℕ) → place < length fields → field_at fields place ≡ Some (get_or fields place [])
+unfolding field_at
+field_within [] place h = absurd (omega arith)
+field_within (f ∷ fields) zero h = refl
+field_within (f ∷ fields) (suc place) h = field_within fields place (omega arith)

@@ -21,5 +21,6 @@ taken-next (r ∷ records) commands fields command at size t e is = record {
   spells = spelled-more command_in Ok records commands t.spells fields command is;
 }
 
-pub taken_all : {all records : List Record} {commands : List Command} → AreTaken records commands → all ≡ records → IsSchedule all commands
+pub taken_all : {all records : List Record} {commands : List Command} → AreTaken records commands → all ≡ records
+    → IsSchedule all commands
 taken_all t e = rw e (record { clean = clean-all t.clean; spells = t.spells })

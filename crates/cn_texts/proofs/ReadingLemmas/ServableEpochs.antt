@@ -1,5 +1,5 @@
 -- The epochs that were gathered can be served, whatever was read.
-use Rattle.cn_texts.proofs.Common.{◌≡◌, ◌<◌, ◌≤◌, ◌+◌, ℕ, List, [], ◌∷◌, ◌++◌, false, None, length, map, refl, arith, sym, ap, ◌∙◌, length-append, nat_eq, list_any, map-append, All-nil, All-push, sum_by_push, nat_tests, Client, times, times-append, times-cons, times-nil, BatchEpoch, Gathering, AreRising, AreServable, MayCome, clients_of_epochs, AreBounds, Bounds, StaysServable, adding_cause, ended_after}
+use Rattle.cn_texts.proofs.Common.{◌≡◌, ◌<◌, ◌≤◌, ◌+◌, ℕ, List, [], ◌∷◌, ◌++◌, false, None, length, map, refl, arith, sym, ap, ◌∙◌, length-append, nat_eq, list_any, map-append, All-nil, All-push, sum_by_push, nat_tests, Client, times-append, times-cons, times-nil, BatchEpoch, Gathering, AreRising, AreServable, MayCome, clients_of_epochs, AreBounds, Bounds, StaysServable, adding_cause, ended_after}
 use Rattle.cn_texts.proofs.ReadingLemmas.GatheredEpochs.{ended-below, once-ended, rising_more}
 use Rattle.cn_texts.proofs.Each.{absent}
 
@@ -31,17 +31,19 @@ none_kept {bounds = bounds} within ended clients keys next = record {
 
 -- once the latest epoch has ended
 pub ended-servable : {g : Gathering} {bounds : Bounds} → StaysServable bounds g → AreServable bounds (ended_after g)
-ended-servable {g = g} {bounds = bounds} keeps = once-ended g (AreServable bounds) (λ none. keeps.ended) (λ some. record {
-  rising = rising_more g.ended.items g.latest keeps.ended.rising keeps.below;
-  some = All-push (λ (x : BatchEpoch). 0 < length x.clients.items) g.ended.items g.latest keeps.ended.some some;
-  come = All-push (λ (x : BatchEpoch). MayCome bounds x.clients.items) g.ended.items g.latest keeps.ended.come keeps.latest;
-})
+ended-servable {g = g} {bounds = bounds} keeps = once-ended g (AreServable bounds) (λ none. keeps.ended)
+    (λ some. record {
+      rising = rising_more g.ended.items g.latest keeps.ended.rising keeps.below;
+      some = All-push (λ (x : BatchEpoch). 0 < length x.clients.items) g.ended.items g.latest keeps.ended.some some;
+      come = All-push (λ (x : BatchEpoch). MayCome bounds x.clients.items) g.ended.items g.latest keeps.ended.come keeps.latest;
+    })
 
 -- and has the clients of all
 pub all-ended : (g : Gathering) → clients_of_epochs (ended_after g) ≡ clients_of_epochs g.ended.items + length g.latest.clients.items
 all-ended g =
     once-ended g (λ epochs. clients_of_epochs epochs ≡ clients_of_epochs g.ended.items + length g.latest.clients.items)
-    (λ none. omega (arith, none)) (λ some. sum_by_push (λ (x : BatchEpoch). length x.clients.items) g.ended.items g.latest)
+    (λ none. omega (arith, none)) (λ some. sum_by_push
+    (λ (x : BatchEpoch). length x.clients.items) g.ended.items g.latest)
 
 -- once it has come to a later epoch
 pub turned-keeps : {old new : Gathering} {n : ℕ} {bounds : Bounds} → StaysServable bounds old → old.latest.number < n
@@ -63,7 +65,8 @@ new-and-few : (bounds : Bounds) (g : Gathering) (c : Client) → adding_cause bo
 new-and-few bounds g c none = (grind (arith, nat_tests), grind (arith, nat_tests), grind (arith, nat_tests))
 
 -- a client more of the latest epoch
-pub added-keeps : {old new : Gathering} {bounds : Bounds} → StaysServable bounds old → (c : Client) → adding_cause bounds old c ≡ None
+pub added-keeps : {old new : Gathering} {bounds : Bounds} → StaysServable bounds old → (c : Client)
+    → adding_cause bounds old c ≡ None
     → c.entry < bounds.entries → new.ended ≡ old.ended
     → new.latest.number ≡ old.latest.number → new.latest.clients.items ≡ old.latest.clients.items ++ c ∷ []
     → new.standing.keys ≡ old.standing.keys ++ c.id ∷ [] → new.next ≡ old.next + 1 → StaysServable bounds new
@@ -80,7 +83,8 @@ added-keeps {old = old} {new = new} {bounds = bounds} keeps c none entry ended n
       latest = record {
         few = omega (arith, room, ap length clients, length-append old.latest.clients.items (c ∷ []));
         within = rw clients (All-push (λ (x : Client). x.entry < bounds.entries) old.latest.clients.items c keeps.latest.within entry);
-        once = λ x. rw ids (once_more before c.id x none (keeps.latest.once x));
+        once = λ x. rw ids (let was = keeps.latest.once x in
+            grind (arith, nat_tests, none, was, times-append x before (c.id ∷ []), times-cons x c.id [], times-nil x));
       };
       standing = keys ∙ ap (λ (l : List ℕ). l ++ c.id ∷ []) keeps.standing ∙ sym ids;
       count = omega (
@@ -93,6 +97,3 @@ added-keeps {old = old} {new = new} {bounds = bounds} keeps c none entry ended n
       );
       few = omega (arith, next, some);
     }
-  where
-    once_more : (all : List ℕ) (id x : ℕ) → times id all ≡ 0 → times x all ≤ 1 → times x (all ++ id ∷ []) ≤ 1
-    once_more all id x none once = grind (arith, nat_tests, times-append x all (id ∷ []), times-cons x id [], times-nil x)

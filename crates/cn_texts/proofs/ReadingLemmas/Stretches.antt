@@ -27,7 +27,8 @@ module _ {heading : Heading} {bounds : Bounds} {before records : List Record} {c
       let a : take i arrivals ≡ arrivals = take_all i arrivals all in
       (rw (take_all i records (omega (arith, all, size)), a) at to.taken, rw a at to.gathered)
 
-  module _ (i : ℕ) {g : Gathering} (to : GatheredTo heading bounds before records came arrivals g i) (within : i < length arrivals)
+  module _ (i : ℕ) {g : Gathering} (to : GatheredTo heading bounds before records came arrivals g i)
+      (within : i < length arrivals)
       (spelled : AreSpelled heading bounds records arrivals) where
     inside : i < length records
     inside = omega (arith, within, same-length (arrival_in heading bounds) Ok records arrivals spelled)
@@ -36,17 +37,24 @@ module _ {heading : Heading} {bounds : Bounds} {before records : List Record} {c
     spells-it d = spelled-at (arrival_in heading bounds) Ok records arrivals spelled i d within
 
     -- one more was
-    pub gathered-next : {h : Gathering} (d : Arrival) → arrival_cause bounds (came ++ take i arrivals) (get_or arrivals i d) ≡ None
+    pub gathered-next : {h : Gathering} (d : Arrival)
+        → arrival_cause bounds (came ++ take i arrivals) (get_or arrivals i d) ≡ None
         → IsGathered h ((came ++ take i arrivals) ++ get_or arrivals i d ∷ [])
         → GatheredTo heading bounds before records came arrivals h (i + 1)
     gathered-next d none more =
         let next : (came ++ take i arrivals) ++ get_or arrivals i d ∷ [] ≡ came ++ take (i + 1) arrivals =
         append_assoc came (take i arrivals) (get_or arrivals i d ∷ [])
         ∙ ap (λ (l : List Arrival). came ++ l) (sym (take_more arrivals i d within)) in
-        let taken = taken-next (before ++ take i records) (came ++ take i arrivals) (get_or records i []) (get_or arrivals i d) to.taken
+        let taken = taken-next (before ++ take i records) (came ++ take i arrivals) (get_or records i [])
+        (get_or arrivals i d) to.taken
         (spells-it d) none in
         record {
-          taken = rw (append_assoc before (take i records) (get_or records i [] ∷ []), sym (take_more records i [] inside), next) at taken;
+          taken = rw (
+            append_assoc before (take i records) (get_or records i [] ∷ []),
+            sym
+                (take_more records i [] inside),
+            next,
+          ) at taken;
           gathered = rw next at more;
         }
 
@@ -58,7 +66,9 @@ module _ {heading : Heading} {bounds : Bounds} {before records : List Record} {c
         let many : length (before ++ take i records) ≡ g.next = omega (arith, to.taken.counted, to.gathered.next) in
         rw (← many) (elim reported [
           | inl e ↦
-              stop-in (clean-of to.taken) (get_or records i []) (drop (i + 1) records ++ later, parted-at before records later i inside)
-              (spelled-same (get_or records i []) to.taken ∙ ap (spelled_cause bounds (came ++ take i arrivals)) (spells-it d) ∙ e)
+              stop-in (clean-of to.taken) (get_or records i [])
+              (drop (i + 1) records ++ later, parted-at before records later i inside)
+              (spelled-same (get_or records i []) to.taken
+              ∙ ap (spelled_cause bounds (came ++ take i arrivals)) (spells-it d) ∙ e)
           | inr e ↦ stop-other (clean-of to.taken) (drop i records ++ later, parted before records later i) (inr e)
         ])

@@ -39,7 +39,8 @@ returns-in-Ok-None-clause-answer g c = λ text read.
     taken-end (λ epochs. epochs.items) c.args.most (records_of text) done earlier records latest c.finish.result t follow
     (rw c.in-Ok-None.field-0-is at (c.in-Ok-None.ensures.found text (done ++ records) now))
     (c.finish.ensures.answer earlier latest checked.holds)
-    (IfOk-weaker c.finish.result _ _ (λ epochs found. found earlier latest checked.holds checked.tells) c.finish.ensures.found)
+    (IfOk-weaker c.finish.result _ _
+    (λ epochs found. found earlier latest checked.holds checked.tells) c.finish.ensures.found)
 
 pub returns-in-Ok-None-clause-told : goal.returns-in-Ok-None-clause-told
 returns-in-Ok-None-clause-told g c =
@@ -73,7 +74,8 @@ returns-in-Err-next_grant-clause-answer g c = λ text read.
     let size : length (done ++ records) ≡ c.loop-at.at = sym t.counted ∙ grants in
     let last = checked.last ∙ sym c.latest.ensures in
     rw c.flaw_at-in-Err-next_grant.ensures (first-flaw c.args.most (records_of text) c.loop-at.at c.in-Err-next_grant.cause
-    (rw (← size) (elim (c.in-Err-next_grant.ensures.refused text (done ++ records) (earlier ++ latest) now last grants) [
+    (rw (← size) (elim (c.in-Err-next_grant.ensures.refused text (done ++ records)
+    (earlier ++ latest) now last grants) [
       | inl (fields, next, e) ↦
           stop-in t.clean fields (read-first next) (at-grants fields c.in-Err-next_grant.cause t
           (form-first c.args.most (earlier ++ latest) _ c.in-Err-next_grant.cause e))

@@ -13,7 +13,8 @@ loop-at-preserved c = record {
         rw w.first-is (seen-again c.loop-at.first c.loop-at.invariant.seen c.loop-at-test.true
         (omega (arith, c.loop-at.auto.at), sym w.if-number-occurrences.true) w.earlier.ensures.low w.earlier.ensures.lower
         w.earlier.ensures.one)
-    | else-number-occurrences w ↦ rw w.first-is (seen-other c.loop-at.invariant.seen (λ e. w.if-number-occurrences.false (sym e)))
+    | else-number-occurrences w ↦ rw w.first-is (seen-other c.loop-at.invariant.seen
+        (λ e. w.if-number-occurrences.false (sym e)))
   ];
 }
 

@@ -35,15 +35,17 @@ loop-epoch-preserved g c =
           let (m, later, rest, sofar, whole, puts) = c.loop-epoch.invariant.put carry width records are in
           let f = first-record (λ r. grant_lines r.number r.clients r.holders.items) carry width m c.args.epochs.now
           c.loop-epoch.epoch-index e later c.loop-epoch.left.now c.loop-epoch-test.true c.epoch-item.is rest in
-          let parts = record-lines carry width m e _ later c.loop-epoch.left.now c.split_at.result.0.now front
-          (c.split_at.ensures.front_len ∙ count) f in (
+          let many = c.split_at.ensures.front_len ∙ count in
+          let mine : List ℕ = grant_lines e.number (length c.split_at.result.0.now) c.split_at.result.0.now in
+          let own : grant_lines f.first.number f.first.clients f.first.holders.items ≡ mine =
+          rw (f.mine.number, f.mine.clients, f.mine.holders, many, front) refl in (
             when carry (m + length e.clients.items),
             f.later,
             subst (λ (t : List ℕ). AreRecordsOf carry width (when carry (m + length e.clients.items))
                 (drop (c.loop-epoch.epoch-index + 1) c.args.epochs.now) f.later t) (sym back) f.rest,
-            sofar ++ grant_lines e.number (length c.split_at.result.0.now) c.split_at.result.0.now,
-            whole ∙ ap (λ (t : List ℕ). sofar ++ t) parts
-                ∙ sym (append_assoc sofar (grant_lines e.number (length c.split_at.result.0.now) c.split_at.result.0.now) (lines f.later)),
+            sofar ++ mine,
+            whole ∙ ap (λ (t : List ℕ). sofar ++ t) (f.parts ∙ ap (λ (t : List ℕ). t ++ lines f.later) own)
+                ∙ sym (append_assoc sofar mine (lines f.later)),
             put-then puts c.send_names.ensures,
           );
     }

@@ -48,7 +48,8 @@ returns-then-not-others-clause-answer g c = λ text header.
     let was = c.loop-stretch.invariant in
     let gathers = rw (c.deref.ensures.value, c.bounds-bounds.ensures) at c.in_ok-gather.ensures in
     let (came, taken, gathered) =
-    at-end was.same (was.taken text header) c.read_stretch-end.ensures.reads gathers (rw c.if-not-others.true at c.in-Ok.is) in
+    at-end was.same (was.taken text header) c.read_stretch-end.ensures.reads gathers
+    (rw c.if-not-others.true at c.in-Ok.is) in
     c.finish.ensures.answer c.args.source.now.heading c.args.source.now.bounds _ _ taken gathered
 
 pub returns-then-not-others-clause-fits : goal.returns-then-not-others-clause-fits

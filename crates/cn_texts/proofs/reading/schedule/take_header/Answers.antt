@@ -19,5 +19,6 @@ returns-else-branch-clause-err g c = λ text read.
           let (more, is) = read-first (rw w.if-branch.true at (c.in_ok-next_record.ensures.reads text [] read)) in
           no_header header_cause record_cause (rw is (rw (← w.if-is_header.ensures) refl))
       | else-branch-via-else-branch w ↦
-          no_header header_cause record_cause (rw (rw w.if-branch.false at (c.in_ok-next_record.ensures.reads text [] read)) refl)
+          no_header header_cause record_cause (rw (rw w.if-branch.false at
+          (c.in_ok-next_record.ensures.reads text [] read)) refl)
     ]

@@ -9,7 +9,8 @@ returns-in-Some-clause-gap c = λ earlier latest held.
     let (rising, names) = c.in_ok-settle.ensures.names earlier latest held in
     let (inside, lacks, least) = (rw c.as_slice.ensures.value at c.in-Some.ensures) rising in
     rw same.2 (gap-some c.args.self.now earlier latest held none c.in-Some.name
-    (omega (arith, inside, same.5, as-many (λ (x : Granted). x.name) latest c.args.self.now.names.items held.names)) (sym (names _) ∙ lacks)
+    (omega (arith, inside, same.5, as-many (λ (x : Granted). x.name) latest c.args.self.now.names.items held.names))
+    (sym (names _) ∙ lacks)
     (λ n h. sym (names n) ∙ least n h))
 
 pub returns-in_ok-push-clause-gap : goal.returns-in_ok-push-clause-gap
@@ -19,7 +20,13 @@ returns-in_ok-push-clause-gap c = λ earlier latest held.
     let (rising, names) = c.in_ok-settle.ensures.names earlier latest held in
     let full = (rw c.as_slice.ensures.value at c.in_default.ensures) rising in
     rw new (gap-none c.args.self.now earlier latest held (sym same.1 ∙ new)
-    (λ n h. sym (names n) ∙ full n (omega (arith, h, same.5, as-many (λ (x : Granted). x.name) latest c.args.self.now.names.items held.names))))
+    (λ n h. sym (names n) ∙ full n (omega (
+      arith,
+      h,
+      same.5,
+      as-many
+          (λ (x : Granted). x.name) latest c.args.self.now.names.items held.names,
+    ))))
 
 pub returns-else-not-is_empty-clause-gap : goal.returns-else-not-is_empty-clause-gap
 returns-else-not-is_empty-clause-gap c = λ earlier latest held.
@@ -28,4 +35,10 @@ returns-else-not-is_empty-clause-gap c = λ earlier latest held.
     let (rising, names) = c.in_ok-settle.ensures.names earlier latest held in
     let full = (rw c.as_slice.ensures.value at c.in_default.ensures) rising in
     rw new (gap-none c.args.self.now earlier latest held (sym same.1 ∙ new)
-    (λ n h. sym (names n) ∙ full n (omega (arith, h, same.5, as-many (λ (x : Granted). x.name) latest c.args.self.now.names.items held.names))))
+    (λ n h. sym (names n) ∙ full n (omega (
+      arith,
+      h,
+      same.5,
+      as-many
+          (λ (x : Granted). x.name) latest c.args.self.now.names.items held.names,
+    ))))

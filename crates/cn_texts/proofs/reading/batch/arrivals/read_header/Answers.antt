@@ -5,7 +5,8 @@ use Rattle.cn_texts.proofs.reading.batch.arrivals.read_header.Goals as goal
 
 pub returns-then-not-branch-clause-err : goal.returns-then-not-branch-clause-err
 returns-then-not-branch-clause-err g c = λ bounds text read.
-    no_header header_cause (record_cause bounds) (rw (rw c.if-not-branch.true at (c.in_ok-next_record.ensures.reads text [] read)) refl)
+    no_header header_cause (record_cause bounds) (rw
+    (rw c.if-not-branch.true at (c.in_ok-next_record.ensures.reads text [] read)) refl)
 
 pub returns-in-Some-clause-ok : goal.returns-in-Some-clause-ok
 returns-in-Some-clause-ok g c = λ text read. (

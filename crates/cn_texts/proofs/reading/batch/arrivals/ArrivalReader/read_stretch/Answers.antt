@@ -39,7 +39,10 @@ returns-in_err-arrival-clause-reads g c =
       same = same-header c.loop-taken.invariant.same c.next_arrival.ensures.same;
       reads = λ text before read.
           let (records, spelled, now) = c.loop-taken.invariant.reads text before read in
-          stretch-read records spelled now (rw (c.loop-taken.invariant.same.heading, c.loop-taken.invariant.same.bounds) at
+          stretch-read records spelled now (rw (
+            c.loop-taken.invariant.same.heading,
+            c.loop-taken.invariant.same.bounds,
+          ) at
           (c.in_err-arrival.ensures.refused text (before ++ records) now));
     })
 
@@ -49,7 +52,8 @@ returns-in_default-clause-reads g c = record {
   same = same-header c.loop-taken.invariant.same c.next_arrival.ensures.same;
   reads = λ text before read.
       let (records, spelled, now) = c.loop-taken.invariant.reads text before read in
-      stretch-read records spelled now (rw c.in_default.is at (c.in_ok-arrival.ensures.next text (before ++ records) now));
+      stretch-read records spelled now (rw c.in_default.is at
+      (c.in_ok-arrival.ensures.next text (before ++ records) now));
 }
 
 pub returns-then-is_err-clause-reads : goal.returns-then-is_err-clause-reads
@@ -79,7 +83,8 @@ returns-then-not-is_next_there-clause-reads g c =
           let (fields, next, is) = rw (c.in-Some.is, c.loop-taken.invariant.same.heading, c.loop-taken.invariant.same.bounds) at
           (c.in_ok-arrival.ensures.next text (before ++ records) now) in
           let more = rw (append_assoc before records (fields ∷ [])) at next in
-          stretch-read (records ++ fields ∷ []) (rw items (spelled-more _ Ok records c.loop-taken.arrivals.items spelled fields
+          stretch-read (records ++ fields ∷ []) (rw items
+          (spelled-more _ Ok records c.loop-taken.arrivals.items spelled fields
           c.in-Some.arrival is)) more more;
     }
 

@@ -7,4 +7,5 @@ pub returns-clause-none : goal.returns-clause-none
 returns-clause-none c = none-gathered c.new.ensures.items c.new-2.ensures.items refl c.with_hasher.ensures.empty refl
 
 pub returns-clause-keeps : goal.returns-clause-keeps
-returns-clause-keeps c = λ bounds within. none_kept within c.new.ensures.items c.new-2.ensures.items c.with_hasher.ensures.empty refl
+returns-clause-keeps c =
+    λ bounds within. none_kept within c.new.ensures.items c.new-2.ensures.items c.with_hasher.ensures.empty refl

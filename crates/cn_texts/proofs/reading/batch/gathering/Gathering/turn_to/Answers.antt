@@ -13,4 +13,5 @@ returns-clause-holds c =
 pub returns-clause-keeps : goal.returns-clause-keeps
 returns-clause-keeps c = λ bounds keeps.
     let (ended, number, clients, keys) = c.in_ok-open_epoch.ensures.turned in
-    turned-keeps keeps (omega (arith, c.requires, c.if-self-epoch.false)) ended number clients keys c.open_epoch.ensures.next
+    turned-keeps keeps
+    (omega (arith, c.requires, c.if-self-epoch.false)) ended number clients keys c.open_epoch.ensures.next
