@@ -15,11 +15,9 @@ module _ (carry : Bool) (width : ℕ) where
   each-of P Q f m [] [] served all = tt
   each-of P Q f m [] (r ∷ records) served all = absurd served
   each-of P Q f m (e ∷ epochs) [] served all = absurd served
-  each-of P Q f m (e ∷ epochs) (r ∷ records) (one, rest) all = (
-    f m e r one all.0,
-    each-of P Q f (clients_before_next carry m
-        (length e.clients.items)) epochs records rest all.1,
-  )
+  each-of P Q f m (e ∷ epochs) (r ∷ records) (one, rest) all =
+      let next = clients_before_next carry m (length e.clients.items) in
+      (f m e r one all.0, each-of P Q f next epochs records rest all.1)
 
   -- the records' numbers rise as the epochs' do
   rising : (m : ℕ) (epochs : List BatchEpoch) (records : List EpochRecord) → AreServed carry width m epochs records
@@ -47,8 +45,8 @@ module _ (carry : Bool) (width : ℕ) where
   mapped f g same m [] (r ∷ records) served = absurd served
   mapped f g same m (e ∷ epochs) [] served = absurd served
   mapped f g same m (e ∷ epochs) (r ∷ records) (one, rest) =
-      λ i. same m e r one i ∷ mapped f g same (clients_before_next carry m
-      (length e.clients.items)) epochs records rest i
+      let next = clients_before_next carry m (length e.clients.items) in
+      λ i. same m e r one i ∷ mapped f g same next epochs records rest i
 
 own-names : (width m : ℕ) (e : BatchEpoch) (r : EpochRecord) → IsServed width m e r → IsSmallEpoch e → HasOwnNames r
 own-names width m e r served small = record {

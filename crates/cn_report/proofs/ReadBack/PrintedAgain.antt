@@ -24,8 +24,8 @@ one_number : (numbers : List ℕ) (r : EpochRecord) (n : ℕ) → 0 < n → AllB
     → numbers-after numbers (map (grant_at r) (range_with_len 0 n)) ≡ numbers ++ r.number ∷ []
 one_number numbers r zero some below = absurd (omega arith)
 one_number numbers r (suc n) some below =
-    let next : with_number numbers r.number ≡ numbers
-    ++ r.number ∷ [] = rw (not-there (λ k. k) r.number numbers below) refl in
+    let next : with_number numbers r.number ≡ numbers ++ r.number ∷ [] =
+    rw (not-there (λ k. k) r.number numbers below) refl in
     ap (λ (ns : List ℕ). numbers-after ns (map (grant_at r) (range_with_len 1 n))) next
     ∙ known-before (numbers ++ r.number ∷ []) r 1 n (last-there r.number numbers)
 

@@ -29,8 +29,8 @@ lines-of-all (r ∷ records) =
 
 pub grants-many : (records : List EpochRecord) → length (all_grants records) ≡ clients_of_records records
 grants-many records =
-    length-flat_map grants_of records ∙ (λ i. sum_by
-    (λ r. length-map-range_with_len (grant_at r) 0 r.clients i) records)
+    length-flat_map grants_of records
+    ∙ (λ i. sum_by (λ r. length-map-range_with_len (grant_at r) 0 r.clients i) records)
 
 -- those of one epoch
 one-epoch : (r : EpochRecord) (names : List ℕ) → of_epoch r.number (map (grant_at r) names) ≡ map (grant_at r) names

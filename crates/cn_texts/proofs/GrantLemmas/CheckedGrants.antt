@@ -38,12 +38,8 @@ of-latest k earlier latest below here =
 -- no epoch above all of them lacks a name
 no-lack-above : (k e n : ℕ) (grants : List Granted) → k < e → AllByRecursion (λ x. x.epoch ≤ k) grants
     → Lacks grants e n → ⊥
-no-lack-above k e n grants h all lack = omega (
-  arith,
-  lack.0,
-  ap length
-      (none-before e grants (before-next k e grants h all)),
-)
+no-lack-above k e n grants h all lack =
+    omega (arith, lack.0, ap length (none-before e grants (before-next k e grants h all)))
 
 -- so the first gap of those up to the greatest is the first of those below any other
 gap-further : (k end : ℕ) (grants : List Granted) (gap : Option Gap) → k < end
@@ -74,14 +70,9 @@ pub turned : {old new : Granting} {earlier latest : List Granted} → HoldsGrant
     → new.before ≡ old.before + length old.clients.items → new.clients.items ≡ [] → new.names.items ≡ []
     → IsGapBelow (old.latest + 1) (earlier ++ latest) new.gap → HoldsGrants new (earlier ++ latest) []
 turned {old = old} {new = new} {earlier = earlier} {latest = latest} held h before clients names gap =
-    let all = up-to held in record {
-      before = omega (
-        arith,
-        before,
-        held.before,
-        as-many (λ x. x.client) latest old.clients.items held.clients,
-        length-append earlier latest,
-      );
+    let all = up-to held in
+    let many = as-many (λ x. x.client) latest old.clients.items held.clients in record {
+      before = omega (arith, before, held.before, many, length-append earlier latest);
       below = before-next old.latest new.latest (earlier ++ latest) h all;
       here = tt;
       clients = clients ∙ no-occurrences 0;

@@ -119,13 +119,9 @@ module _ {most : ℕ} {done records : List Record} {before grants : List Granted
       ∙ (λ i. first_cause (follow.form place within i) (twice_cause (before ++ take place grants) (own i)))
       ∙ twice.twice in
       let inside : place < length records = omega (arith, within, as-many) in
+      let front = length-take-le place records (omega (arith, inside)) in
       let number : length (done ++ take place records) ≡ length before + 1 + place =
-      omega (
-        arith,
-        length-append done (take place records),
-        length-take-le place records (omega (arith, inside)),
-        t.counted,
-      ) in
+      omega (arith, length-append done (take place records), front, t.counted) in
       rw twice.is (first-flaw most all (length before + 1 + place) twice.cause (rw (← number)
       (stop-in some.clean fields (drop (place + 1) records ++ more, is ∙ parted-at done records more place inside)
       (at-grants fields twice.cause some caused))))

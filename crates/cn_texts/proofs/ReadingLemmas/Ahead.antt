@@ -15,13 +15,8 @@ pub stretch-read : {R : Type 0} {remaining : R → Option (List ℕ)} {old new :
     → AreSpelled heading bounds records arrivals → HasRead remaining old text (before ++ records)
     → EndsAfter remaining new heading bounds text (before ++ records) end
     → HasStretch remaining new heading bounds text before arrivals end
-stretch-read records spelled read ends = record {
-  records = records;
-  spelled = spelled;
-  first = read-first read;
-  ends =
-      ends;
-}
+stretch-read records spelled read ends =
+    record { records = records; spelled = spelled; first = read-first read; ends = ends }
 
 -- what is read later still has the same header
 pub same-header : {R : Type 0} {old mid new : ArrivalReader R} → HasSameHeader old mid → HasSameHeader mid new

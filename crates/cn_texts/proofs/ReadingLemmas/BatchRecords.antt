@@ -49,6 +49,5 @@ pub taken_all : {heading : Heading} {bounds : Bounds} (records : List Record) {a
 taken_all {bounds = bounds} records t are =
     record {
       clean = clean-all (clean-of t);
-      holds = rw
-          ((λ i. arrivals_in (t.headed i) bounds (drop 1 records)) ∙ t.spells) are;
+      holds = rw ((λ i. arrivals_in (t.headed i) bounds (drop 1 records)) ∙ t.spells) are;
     }

@@ -45,16 +45,12 @@ module _ {heading : Heading} {bounds : Bounds} {before records : List Record} {c
         let next : (came ++ take i arrivals) ++ get_or arrivals i d ∷ [] ≡ came ++ take (i + 1) arrivals =
         append_assoc came (take i arrivals) (get_or arrivals i d ∷ [])
         ∙ ap (λ (l : List Arrival). came ++ l) (sym (take_more arrivals i d within)) in
+        let rows = sym (take_more records i [] inside) in
         let taken = taken-next (before ++ take i records) (came ++ take i arrivals) (get_or records i [])
         (get_or arrivals i d) to.taken
         (spells-it d) none in
         record {
-          taken = rw (
-            append_assoc before (take i records) (get_or records i [] ∷ []),
-            sym
-                (take_more records i [] inside),
-            next,
-          ) at taken;
+          taken = rw (append_assoc before (take i records) (get_or records i [] ∷ []), rows, next) at taken;
           gathered = rw next at more;
         }
 

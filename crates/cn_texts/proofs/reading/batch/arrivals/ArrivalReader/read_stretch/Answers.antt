@@ -39,10 +39,8 @@ returns-in_err-arrival-clause-reads g c =
       same = same-header c.loop-taken.invariant.same c.next_arrival.ensures.same;
       reads = λ text before read.
           let (records, spelled, now) = c.loop-taken.invariant.reads text before read in
-          stretch-read records spelled now (rw (
-            c.loop-taken.invariant.same.heading,
-            c.loop-taken.invariant.same.bounds,
-          ) at
+          let was = c.loop-taken.invariant.same in
+          stretch-read records spelled now (rw (was.heading, was.bounds) at
           (c.in_err-arrival.ensures.refused text (before ++ records) now));
     })
 
