@@ -1,5 +1,6 @@
 -- A run whose names follow the order of the batch has one text.
-use Rattle.cn_report.proofs.Common.{◌≡◌, ℕ, ◌+◌, Bool, List, [], ◌∷◌, ◌++◌, length, map, sum_by, ap, sym, refl, arith, ◌∙◌, AllZip, flat_map, length-map, sum_by-cons, shares_after, Network, Client, EpochRecord, plain_epoch, BatchEpoch, grant_lines, grants_header, epoch_line, epoch_lines, report_end, heading, Description, one-network, Report, Grants, AreServed, IsInOrder, IsRunInOrder, text_in}
+use Rattle.cn_report.proofs.Common.{◌≡◌, ℕ, ◌+◌, Bool, List, [], ◌∷◌, ◌++◌, length, map, sum_by, ap, sym, refl, ◌∙◌, AllZip, flat_map, length-map, shares_after, Network, Client, EpochRecord, plain_epoch, BatchEpoch, grant_lines, grants_header, epoch_line, report_end, heading, Description, one-network, Report, Grants, AreServed, IsInOrder, IsRunInOrder, text_in}
+use Rattle.std.proofs.lemmas.List.Folds.{flat_map-map, fold-map}
 use Rattle.cn_spec.specs.Sums.{when}
 use Rattle.cn_texts.specs.Writing.Outcome.{exit_lines, name_lines}
 use Rattle.cn_cli.specs.declared.options.Form.{Form}
@@ -25,31 +26,14 @@ printed-text Report network ts = heading network ++ flat_map (printed-lines netw
     ++ report_end (length ts) (sum_by (λ (t : Printed). t.clients) ts)
 printed-text Grants network ts = grants_header ++ flat_map printed-grants ts
 
-flat-printed : (g : EpochRecord → List ℕ) (f : Printed → List ℕ) → ((r : EpochRecord) → g r ≡ f (printed r)) → (records : List EpochRecord)
-    → flat_map g records ≡ flat_map f (map printed records)
-flat-printed g f same [] = refl
-flat-printed g f same (r ∷ records) = λ i. same r i ++ flat-printed g f same records i
-
-sum-printed : (records : List EpochRecord)
-    → sum_by (λ (r : EpochRecord). r.clients) records ≡ sum_by (λ (t : Printed). t.clients) (map printed records)
-sum-printed [] = refl
-sum-printed (r ∷ records) =
-    omega (
-      arith,
-      sum_by-cons (λ (x : EpochRecord). x.clients) r records,
-      sum_by-cons (λ (t : Printed). t.clients) (printed r) (map printed records),
-      sum-printed records,
-    )
-
 text-printed : (form : Form) (network : Network) (records : List EpochRecord)
     → text_in form network records ≡ printed-text form network (map printed records)
 text-printed Report network records =
-    let lines : flat_map (epoch_lines network.table.width) records ≡ flat_map (printed-lines network.table.width) (map printed records) =
-    flat-printed (epoch_lines network.table.width) (printed-lines network.table.width) (λ r. refl) records in
-    λ i. heading network ++ lines i ++ report_end (sym (length-map records printed) i) (sum-printed records i)
-text-printed Grants network records =
-    ap (λ (xs : List ℕ). grants_header ++ xs)
-    (flat-printed (λ r. grant_lines r.number r.clients r.holders.items) printed-grants (λ r. refl) records)
+    let lines = sym (flat_map-map (printed-lines network.table.width) printed records) in
+    let clients = sym (fold-map (λ (a : ℕ) (t : Printed). a + t.clients) printed 0 records) in
+    λ i. heading network ++ lines i ++ report_end (sym (length-map records printed) i) (clients i)
+text-printed Grants network records = ap (λ (xs : List ℕ). grants_header ++ xs)
+    (sym (flat_map-map printed-grants printed records))
 
 -- it follows from the batch
 abbrev printed-of : Bool → ℕ → ℕ → List (ℕ × List Client) → List Printed

@@ -1,5 +1,8 @@
 -- What jobs write has one text.
-use Rattle.cn_report.proofs.Common.{◌≡◌, ℕ, List, [], ◌∷◌, None, Result, Ok, Err, ◌++◌, map, refl, sym, ap, ap₂, subst, arith, ◌∙◌, Network, IsNetwork, Command, end_line, heading, Record, Description, one-network}
+use Rattle.cn_report.proofs.Common.{◌≡◌, ℕ, List, [], None, Result, Ok, Err, ◌++◌, map, sym, ap, subst, arith, ◌∙◌, Network, IsNetwork, Command, end_line, heading, Record, Description, one-network}
+use mathlib.Core.List.{map-map}
+use Rattle.std.proofs.lemmas.List.{map-id}
+use Rattle.cn_ledger.specs.declared.command.Command.TheVariants.{Turn}
 use Rattle.cn_core.specs.History.{carried_by, enters_of, inside_of}
 use Rattle.cn_epoch.specs.History.{history_by_commands, turns_by}
 use Rattle.cn_epoch.proofs.CallerLemmas.{history-by-same, one-list, turns-by-same}
@@ -12,29 +15,16 @@ use Rattle.cn_renamer.specs.Show.{IsWiringOf}
 
 -- ---- the commands of a schedule
 
-spelled : List Command → List (Result Command ScheduleCause)
-spelled commands = map Ok commands
-
-head_of : Command → List (Result Command ScheduleCause) → Command
-head_of other [] = other
-head_of other (Ok command ∷ rest) = command
-head_of other (Err cause ∷ rest) = other
-
-tail_of : List (Result Command ScheduleCause) → List (Result Command ScheduleCause)
-tail_of [] = []
-tail_of (first ∷ rest) = rest
-
-same : (commands others : List Command) → spelled commands ≡ spelled others → commands ≡ others
-unfolding spelled head_of tail_of
-same [] [] e = refl
-same [] (other ∷ others) e = cc
-same (command ∷ commands) [] e = cc
-same (command ∷ commands) (other ∷ others) e = ap₂ (λ c cs. c ∷ cs) (ap (head_of command) e) (same commands others (ap tail_of e))
+command_of : Result Command ScheduleCause → Command
+command_of (Ok command) = command
+command_of (Err cause) = Turn
 
 pub one-schedule : {records : List Record} (commands others : List Command) → IsSchedule records commands → IsSchedule records others
     → commands ≡ others
-unfolding spelled
-one-schedule commands others one another = same commands others (sym one.spells ∙ another.spells)
+unfolding command_of
+one-schedule commands others one another =
+    sym (map-map command_of Ok commands ∙ map-id commands) ∙ ap (map command_of) (sym one.spells ∙ another.spells)
+    ∙ map-map command_of Ok others ∙ map-id others
 
 -- ---- on a network
 

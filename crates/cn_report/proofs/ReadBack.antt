@@ -1,8 +1,5 @@
 -- Lemmas on what is written and read again.
 pub mod Batches
-pub mod Epochs
-pub mod Fields
-pub mod Form
 pub mod PrintedAgain
 pub mod Records
 pub mod TightAgain

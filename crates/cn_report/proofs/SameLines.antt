@@ -1,8 +1,7 @@
 -- Answers that say the same have the same lines, and those that are whole leave out nothing.
-use Rattle.cn_report.proofs.Common.{◌≡◌, ◌<◌, ◌∙◌, ℕ, List, [], ◌∷◌, ◌++◌, refl, ap, arith, length, AllZip, Command, IsShowable, answer_line, answer_lines, counts_or_shares, EpochRecord, grant_lines, lines-by, IsWhole}
+use Rattle.cn_report.proofs.Common.{◌≡◌, ◌<◌, ◌∙◌, ℕ, List, [], ◌∷◌, refl, ap, arith, length, AllZip, Command, IsShowable, answer_line, answer_lines, counts_or_shares, EpochRecord, grant_lines, lines-by, IsWhole}
 use Rattle.cn_ledger.specs.declared.answer.Answer.{Answer}
 use Rattle.cn_ledger.specs.declared.answer.Answer.TheVariants.{Replied, Turned, TurnRefused}
-use Rattle.cn_ledger.specs.declared.command.Command.TheVariants.{Enter, Step, Turn}
 use Rattle.cn_ledger.specs.Answers.{IsSameAnswer}
 
 -- what a grant list has of a record
@@ -12,17 +11,7 @@ grants-of r = grant_lines r.number r.clients r.holders.items
 line-same : (width : ℕ) (answer other : Answer) → IsSameAnswer answer other → (command : Command)
     → answer_line width command answer ≡ answer_line width command other
 unfolding answer_line
-line-same width (Replied reply) (Replied other) same command = ap (λ r. answer_line width command (Replied r)) same
-line-same width (TurnRefused fault) (TurnRefused other) same command = ap (λ f. answer_line width command (TurnRefused f)) same
-line-same width (Turned r) (Turned s) same (Enter client entry) = refl
-line-same width (Turned r) (Turned s) same (Step client) = refl
-line-same width (Turned r) (Turned s) same Turn = rw (same.number, same.clients, same.counts, same.holders) refl
-line-same width (Replied reply) (Turned s) same command = absurd same
-line-same width (Replied reply) (TurnRefused other) same command = absurd same
-line-same width (Turned r) (Replied other) same command = absurd same
-line-same width (Turned r) (TurnRefused other) same command = absurd same
-line-same width (TurnRefused fault) (Replied other) same command = absurd same
-line-same width (TurnRefused fault) (Turned s) same command = absurd same
+line-same width answer other same command = grind (arith, same)
 
 pub lines-same : (width : ℕ) (commands : List Command) (answers others : List Answer) → AllZip IsSameAnswer answers others
     → answer_lines width commands answers ≡ answer_lines width commands others

@@ -1,5 +1,7 @@
 -- The records of a batch determine its epochs.
 use Rattle.cn_report.proofs.Common.{◌≡◌, ◌<◌, ℕ, List, [], ◌∷◌, ◌++◌, length, map, drop, refl, arith, sym, ap, ◌∙◌, length-append, ◌==◌, AllByRecursion, flat_map, append-nil, length-map, filter-append, ne_eqb, Client, Arrival, BatchEpoch, AreEpochsOf, AreRising, arrivals_of, plain_epoch, arrival_at, client_of, other-epoch, same-epoch}
+use mathlib.Core.List.{map-map}
+use Rattle.std.proofs.lemmas.List.{map-id}
 use Rattle.std.proofs.Math.Seq.{drop-append_seam}
 use Rattle.cn_texts.specs.Reading.Arrival.{of_epoch}
 
@@ -27,8 +29,7 @@ head-number n [] more h = absurd (omega arith)
 head-number n (c ∷ cs) more h = refl
 
 clients-back : (n : ℕ) (cs : List Client) → map client_of (map (arrival_at n) cs) ≡ cs
-clients-back n [] = refl
-clients-back n (c ∷ cs) = ap (λ (l : List Client). c ∷ l) (clients-back n cs)
+clients-back n cs = map-map client_of (arrival_at n) cs ∙ map-id cs
 
 rest_same : (front front2 back back2 : List Arrival) → front ≡ front2 → front ++ back ≡ front2 ++ back2 → back ≡ back2
 rest_same front front2 back back2 e same =

@@ -3,4 +3,3 @@ pub mod CheckedGrants
 pub mod GrantRecords
 pub mod Repeats
 pub mod TightFacts
-pub mod TightLines

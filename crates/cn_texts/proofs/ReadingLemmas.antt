@@ -4,9 +4,7 @@ pub mod BatchRecords
 pub mod Digits
 pub mod FirstFaults
 pub mod GatheredEpochs
-pub mod RecordFields
 pub mod RecordLists
-pub mod Results
 pub mod ScheduleRecords
 pub mod ServableEpochs
 pub mod Stretches

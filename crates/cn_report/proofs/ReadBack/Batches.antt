@@ -1,9 +1,8 @@
 -- The numbers of a batch that was read, and how many clients it has.
-use Rattle.cn_report.proofs.Common.{◌≡◌, ◌<◌, ◌≤◌, ◌+◌, ◌^◌, ℕ, List, [], ◌∷◌, ◌++◌, Option, Some, None, Result, Ok, Err, length, map, take, drop, get_or, refl, arith, suc, sym, ap, ◌∙◌, subst, length-append, All, AllByRecursion, cons_option, flat_map, sum_by, nat_tests, length-map, take_all, take_more, All-cons, All-nil, filter_map-append, sum_by-cons, Record, result_ok, Client, arrival_cause, arrival_in, arrival_with_entry, arrivals_in, arriving, entry_by_rule, ruled_arrival, spelled_cause, IsBatch, arrivals_of, batch_cause, header_cause, record_cause, heading_in, IsClean, number_in, Arrival, BatchEpoch, cause_later}
-use Rattle.std.proofs.lemmas.Option.{none-some}
+use Rattle.cn_report.proofs.Common.{◌≡◌, ◌<◌, ◌≤◌, ◌+◌, ◌^◌, ℕ, List, [], ◌∷◌, ◌++◌, Option, Some, None, Result, length, map, take, drop, get_or, refl, arith, suc, sym, ap, ◌∙◌, subst, length-append, All, AllByRecursion, cons_option, flat_map, sum_by, nat_tests, length-map, take_all, take_more, All-cons, All-nil, filter_map-append, Record, result_ok, Client, arrival_cause, arrival_in, arrival_with_entry, arrivals_in, ruled_arrival, spelled_cause, IsBatch, arrivals_of, batch_cause, header_cause, record_cause, heading_in, IsClean, number_in, Arrival, BatchEpoch, arrival_at, cause_later}
+use Rattle.std.proofs.lemmas.List.Concat.{length-flat_map}
 use Rattle.cn_texts.specs.declared.reading.bounds.Bounds.{Bounds}
 use Rattle.cn_texts.specs.declared.reading.batch.arrival.Heading.{Heading}
-use Rattle.cn_texts.specs.declared.reading.batch.arrival.Heading.TheVariants.{WithEntry, ByRule}
 use Rattle.cn_texts.specs.declared.reading.batch_fault.BatchCause.{BatchCause}
 
 -- ---- numbers
@@ -17,36 +16,10 @@ number-small field n e = grind (arith, nat_tests, e)
 abbrev IsSmall : Arrival → Type 0
 IsSmall a = (a.epoch < 2 ^ 64) × (a.client < 2 ^ 64)
 
-arriving-small : (epoch client entry : Option ℕ) (a : Arrival) → ((n : ℕ) → epoch ≡ Some n → n < 2 ^ 64)
-    → ((n : ℕ) → client ≡ Some n → n < 2 ^ 64)
-    → result_ok (arriving epoch client entry) ≡ Some a → IsSmall a
-arriving-small None client entry a e c is = absurd (none-some a is)
-arriving-small (Some x) None entry a e c is = absurd (none-some a is)
-arriving-small (Some x) (Some y) None a e c is = absurd (none-some a is)
-arriving-small (Some x) (Some y) (Some z) a e c is =
-    let same : record { epoch = x; client = y; entry = z } ≡ a = cc is in
-    subst IsSmall same (e x refl, c y refl)
-
-with-entry-small : (fields : Record) (a : Arrival) → result_ok (arrival_with_entry fields) ≡ Some a → IsSmall a
-unfolding arrival_with_entry
-with-entry-small [] a is = absurd (none-some a is)
-with-entry-small (e ∷ []) a is = absurd (none-some a is)
-with-entry-small (e ∷ c ∷ []) a is = absurd (none-some a is)
-with-entry-small (e ∷ c ∷ n ∷ []) a is = arriving-small (number_in e) (number_in c) (number_in n) a (number-small e) (number-small c) is
-with-entry-small (e ∷ c ∷ n ∷ d ∷ rest) a is = absurd (none-some a is)
-
-ruled-small : (entries : ℕ) (fields : Record) (a : Arrival) → result_ok (ruled_arrival entries fields) ≡ Some a → IsSmall a
-unfolding ruled_arrival
-ruled-small entries [] a is = absurd (none-some a is)
-ruled-small entries (e ∷ []) a is = absurd (none-some a is)
-ruled-small entries (e ∷ c ∷ []) a is = arriving-small (number_in e) (number_in c) (entry_by_rule entries (number_in c)) a (number-small e)
-    (number-small c) is
-ruled-small entries (e ∷ c ∷ n ∷ rest) a is = absurd (none-some a is)
-
 arrival-small : (heading : Heading) (bounds : Bounds) (fields : Record) (a : Arrival)
     → result_ok (arrival_in heading bounds fields) ≡ Some a → IsSmall a
-arrival-small WithEntry bounds fields a is = with-entry-small fields a is
-arrival-small ByRule bounds fields a is = ruled-small bounds.entries fields a is
+unfolding arrival_with_entry ruled_arrival
+arrival-small heading bounds fields a is = (grind (arith, number-small, is), grind (arith, number-small, is))
 
 arrivals-small : (heading : Heading) (bounds : Bounds) (records : List Record) → AllByRecursion IsSmall (arrivals_in heading bounds records)
 arrivals-small heading bounds [] = tt
@@ -95,8 +68,7 @@ epochs-small (e ∷ epochs) some all =
 few-before : (bounds : Bounds) (before : List Arrival) (spelled : Result Arrival BatchCause) → spelled_cause bounds before spelled ≡ None
     → length before < bounds.records
 unfolding arrival_cause
-few-before bounds before (Err why) none = absurd (none-some why (sym none))
-few-before bounds before (Ok a) none = grind (arith, nat_tests, none)
+few-before bounds before spelled none = grind (arith, nat_tests, none)
 
 at_most_one : (spelled : Option Arrival) → length (cons_option spelled []) ≤ 1
 at_most_one None = omega arith
@@ -135,12 +107,8 @@ abbrev clients_in : BatchEpoch → ℕ
 clients_in e = length e.clients.items
 
 arrivals-many : (epochs : List BatchEpoch) → length (flat_map arrivals_of epochs) ≡ sum_by clients_in epochs
-arrivals-many [] = refl
-arrivals-many (e ∷ epochs) =
-    length-append (arrivals_of e) (flat_map arrivals_of epochs)
-    ∙ (λ i. length-map {B = Arrival} e.clients.items (λ (c : Client). record { epoch = e.number; client = c.id; entry = c.entry }) i
-    + arrivals-many epochs i)
-    ∙ sym (sum_by-cons clients_in e epochs)
+arrivals-many epochs = length-flat_map arrivals_of epochs
+    ∙ (λ i. sum_by (λ e. length-map e.clients.items (arrival_at e.number) i) epochs)
 
 -- a batch's numbers are of 64 bits, and its clients are no more than the limit of records
 pub batch-numbers : (bounds : Bounds) (records : List Record) (epochs : List BatchEpoch) → IsBatch bounds records epochs

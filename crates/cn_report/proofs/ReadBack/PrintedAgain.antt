@@ -1,8 +1,7 @@
 -- What a check finds of a grant list that is written.
-use Rattle.cn_report.proofs.Common.{◌≡◌, ◌<◌, ◌≤◌, ◌+◌, ℕ, List, [], ◌∷◌, ◌++◌, Bool, true, false, length, map, refl, arith, suc, zero, sym, ap, ◌∙◌, ◌||◌, drop, nat_eq, AllByRecursion, fold, list_any, range_with_len, eq-eqb, ne_eqb, append-nil, append_assoc, length-map, fold-append, counts_after, counts_of, shares, shares_after, Record, records_of, length-map-range_with_len, IsPermutation-refl, counts-shares, counts-shares-after, MOST_NAMED, EpochRecord, grants_spelled, of_epoch, IsTightList, epoch_numbers, printed_epoch, printed_epochs, with_number, Granted, grants_text, AreRisingRecords, AreTightRecords, checked_epoch, names_in}
-use Rattle.cn_report.proofs.ReadBack.Epochs.{all_grants, first-epoch, grant_at, grants_of, later-epoch, names-given}
-use Rattle.cn_report.proofs.ReadBack.Form.{grants-read}
-use Rattle.cn_report.proofs.ReadBack.TightAgain.{records-back, small-grants}
+use Rattle.cn_report.proofs.Common.{◌≡◌, ◌<◌, ◌≤◌, ◌+◌, ℕ, List, [], ◌∷◌, ◌++◌, true, length, map, refl, arith, suc, zero, sym, ap, ◌∙◌, drop, nat_eq, AllByRecursion, each-append, each-weaker, last-there, not-there, fold, list_any, range_with_len, append-nil, append_assoc, length-map, fold-append, counts_after, counts_of, shares, shares_after, Record, records_of, length-map-range_with_len, IsPermutation-refl, counts-shares, counts-shares-after, MOST_NAMED, EpochRecord, grants_spelled, of_epoch, IsTightList, epoch_numbers, printed_epoch, printed_epochs, with_number, Granted, grants_text, AreRisingRecords, AreTightRecords, checked_epoch, names_in}
+use Rattle.cn_report.proofs.ReadBack.TightAgain.{all_grants, first-epoch, grant_at, grants_of, later-epoch, names-given, records-back, small-grants}
+use Rattle.cn_report.proofs.ReadBack.Records.{grants-read}
 
 -- ---- the epochs' numbers
 
@@ -20,54 +19,31 @@ known-before numbers r from (suc n) there =
     let same : with_number numbers r.number ≡ numbers = rw there refl in
     ap (λ (ns : List ℕ). numbers-after ns (map (grant_at r) (range_with_len (from + 1) n))) same ∙ known-before numbers r (from + 1) n there
 
-last-there : (numbers : List ℕ) (n : ℕ) → list_any (nat_eq n) (numbers ++ n ∷ []) ≡ true
-last-there [] n = rw (eq-eqb n n refl) refl
-last-there (x ∷ numbers) n = ap (λ (b : Bool). nat_eq n x || b) (last-there numbers n) ∙ either (nat_eq n x)
-  where
-    either : (b : Bool) → (b || true) ≡ true
-    either true = refl
-    either false = refl
-
-abbrev AreBelow : ℕ → List ℕ → Type 0
-AreBelow n numbers = AllByRecursion (λ k. k < n) numbers
-
-not_there : (numbers : List ℕ) (n : ℕ) → AreBelow n numbers → list_any (nat_eq n) numbers ≡ false
-not_there [] n below = refl
-not_there (x ∷ numbers) n below = rw (ne_eqb n x (λ same. omega (arith, same, below.0)), not_there numbers n below.1) refl
-
 -- an epoch's grants give its number once
-one_number : (numbers : List ℕ) (r : EpochRecord) (n : ℕ) → 0 < n → AreBelow r.number numbers
+one_number : (numbers : List ℕ) (r : EpochRecord) (n : ℕ) → 0 < n → AllByRecursion (λ k. k < r.number) numbers
     → numbers-after numbers (map (grant_at r) (range_with_len 0 n)) ≡ numbers ++ r.number ∷ []
 one_number numbers r zero some below = absurd (omega arith)
 one_number numbers r (suc n) some below =
-    let next : with_number numbers r.number ≡ numbers ++ r.number ∷ [] = rw (not_there numbers r.number below) refl in
+    let next : with_number numbers r.number ≡ numbers ++ r.number ∷ [] =
+    rw (not-there (λ k. k) r.number numbers below) refl in
     ap (λ (ns : List ℕ). numbers-after ns (map (grant_at r) (range_with_len 1 n))) next
-    ∙ known-before (numbers ++ r.number ∷ []) r 1 n (last-there numbers r.number)
+    ∙ known-before (numbers ++ r.number ∷ []) r 1 n (last-there r.number numbers)
 
-below_next : (numbers : List ℕ) (n last : ℕ) → AreBelow n numbers → last < n → AreBelow n (numbers ++ last ∷ [])
-below_next [] n last below h = (h, tt)
-below_next (x ∷ numbers) n last below h = (below.0, below_next numbers n last below.1 h)
-
-later-below : (numbers : List ℕ) (last : ℕ) (records : List EpochRecord) → AllByRecursion (λ s. AreBelow s.number numbers) records
-    → AllByRecursion (λ s. last < s.number) records → AllByRecursion (λ s. AreBelow s.number (numbers ++ last ∷ [])) records
-later-below numbers last [] below above = tt
-later-below numbers last (s ∷ records) below above =
-    (below_next numbers s.number last below.0 above.0, later-below numbers last records below.1 above.1)
-
-all-numbers : (numbers : List ℕ) (records : List EpochRecord) → AreRisingRecords records → AllByRecursion (λ r. 0 < r.clients) records
-    → AllByRecursion (λ r. AreBelow r.number numbers) records
+all-numbers : (low : ℕ) (numbers : List ℕ) (records : List EpochRecord) → AreRisingRecords records
+    → AllByRecursion (λ r. 0 < r.clients) records → AllByRecursion (λ k. k < low) numbers
+    → AllByRecursion (λ r. low ≤ r.number) records
     → numbers-after numbers (all_grants records) ≡ numbers ++ map number_of records
 unfolding AreRisingRecords
-all-numbers numbers [] rising some below = sym (append-nil numbers)
-all-numbers numbers (r ∷ records) rising some below =
+all-numbers low numbers [] rising some below above = sym (append-nil numbers)
+all-numbers low numbers (r ∷ records) rising some below above =
+    let before = each-weaker (λ k. k < low) (λ k. k < r.number) (λ k h. omega (arith, h, above.0)) numbers below in
+    let next = each-append (λ k. k < suc r.number) numbers (r.number ∷ [])
+    (each-weaker (λ k. k < r.number) (λ k. k < suc r.number) (λ k h. omega (arith, h)) numbers before)
+    (omega arith, tt) in
     fold-append (λ (ns : List ℕ) (g : Granted). with_number ns g.epoch) numbers (grants_of r) (all_grants records)
-    ∙ ap (λ (ns : List ℕ). numbers-after ns (all_grants records)) (one_number numbers r r.clients some.0 below.0)
-    ∙ all-numbers (numbers ++ r.number ∷ []) records rising.1 some.1 (later-below numbers r.number records below.1 rising.0)
+    ∙ ap (λ (ns : List ℕ). numbers-after ns (all_grants records)) (one_number numbers r r.clients some.0 before)
+    ∙ all-numbers (suc r.number) (numbers ++ r.number ∷ []) records rising.1 some.1 next rising.0
     ∙ append_assoc numbers (r.number ∷ []) (map number_of records)
-
-none_below : (records : List EpochRecord) → AllByRecursion (λ r. AreBelow r.number []) records
-none_below [] = tt
-none_below (r ∷ records) = (tt, none_below records)
 
 -- ---- what is found of each
 
@@ -115,7 +91,8 @@ printed-back most width records h tight some =
     ap (λ (l : List Record). grants_spelled (drop 1 l)) (records-back most records h tight)
     ∙ grants-read all (small-grants most records h tight) in
     (λ i. map (printed_epoch width (spells i)) (epoch_numbers (spells i)))
-    ∙ ap (map (printed_epoch width all)) (all-numbers [] records tight.rising some (none_below records))
+    ∙ ap (map (printed_epoch width all)) (all-numbers 0 [] records tight.rising some tt
+    (each-weaker (λ r. 0 < r.clients) (λ r. 0 ≤ r.number) (λ r h. omega arith) records some))
     ∙ printed-each width all records (own-grants records tight.rising)
 
 -- ---- any tight list

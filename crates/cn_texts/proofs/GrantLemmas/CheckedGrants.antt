@@ -1,27 +1,26 @@
 -- The grants that were seen so far.
-use Rattle.cn_texts.proofs.Common.{◌≡◌, ◌<◌, ◌≤◌, ◌+◌, ℕ, Bool, List, [], ◌∷◌, ◌++◌, true, false, Option, Some, None, length, get_or, refl, arith, suc, zero, sym, ap, ◌∙◌, inl, inr, map, subst, take, length-append, length-map, get_or-map, append_assoc, if◌then◌else◌, ◌==◌, ◌⊎◌, nat_eq, AllByRecursion, list_any, append-nil, map-append, filter-append, fold-append, All-from_recursion, All-get_or, lt-ltb, ne_eqb, eq-eqb, leb_tells, nat_tests, leb, ◌||◌, IfSome, slice_get, get_or-take, length-take-le, All-from_get_or, list_any_at, list_any_none, get_or_from_slice_get, slice_get-get_or, slice_get_within, AreFresh, AreFreshBefore, AreSeen, HoldsGrants, IsChecked, IsGapBelow, IsTwice, Tells, latest_number, latest_seen, IsFirstRepeat, IsRepeat, has_number, occurrences_from, epoch_numbers, named_epoch, plain_named, with_number, form_cause, has_name, last_epoch, of_epoch, twice_cause, Lacks, Granted, DuplicateClient, DuplicateName, Occurrence}
+use Rattle.cn_texts.proofs.Common.{◌≡◌, ◌<◌, ◌≤◌, ◌+◌, ℕ, List, [], ◌∷◌, ◌++◌, true, false, Option, Some, None, length, get_or, refl, arith, suc, sym, ap, ◌∙◌, inl, inr, map, subst, take, length-append, length-map, get_or-map, append_assoc, if◌then◌else◌, ◌==◌, ◌⊎◌, AllByRecursion, list_any, append-nil, map-append, filter-append, fold-append, All-from_recursion, All-get_or, lt-ltb, ne_eqb, eq-eqb, leb_tells, nat_tests, leb, IfSome, slice_get, get_or-take, length-take-le, All-from_get_or, list_any_at, list_any_none, get_or_from_slice_get, slice_get-get_or, slice_get_within, AreFresh, AreFreshBefore, AreSeen, HoldsGrants, IsChecked, IsGapBelow, IsTwice, Tells, latest_number, latest_seen, IsFirstRepeat, IsRepeat, occurrences_from, epoch_numbers, named_epoch, plain_named, with_number, form_cause, has_name, last_epoch, of_epoch, twice_cause, Lacks, Granted, DuplicateClient, DuplicateName, Occurrence}
 use Rattle.std.specs.Option.{is_some}
+use Rattle.std.proofs.lemmas.List.Elements.{All-take, recursion_from_All}
+use Rattle.cn_texts.proofs.Each.{any-map, each-append, each-weaker, last-there, not-there}
 use Rattle.cn_texts.specs.declared.grants.record.GrantCause.TheVariants as cause
 use Rattle.cn_texts.specs.declared.grants.epochs.Gap.{Gap}
 use Rattle.cn_texts.specs.declared.grants.epochs.Granting.{Granting}
 use Rattle.cn_texts.proofs.GrantLemmas.Repeats.{length-occurrences, no-occurrences, occurrence, occurrences-more}
 
--- an epoch above all of them has none
-pub none-above : (k n : ℕ) (grants : List Granted) → k < n → AllByRecursion (λ x. x.epoch ≤ k) grants → of_epoch n grants ≡ []
-none-above k n [] h all = refl
-none-above k n (g ∷ grants) h all = rw (ne_eqb g.epoch n (λ e. omega (arith, e, h, all.0))) (none-above k n grants h all.1)
-
 -- earlier grants and those of the latest epoch
-pub up-to : (k : ℕ) (earlier latest : List Granted) → AllByRecursion (λ x. x.epoch < k) earlier → AllByRecursion (λ x. x.epoch ≡ k) latest
-    → AllByRecursion (λ x. x.epoch ≤ k) (earlier ++ latest)
-up-to k [] [] below here = tt
-up-to k [] (g ∷ latest) below here = (omega (arith, here.0), up-to k [] latest below here.1)
-up-to k (g ∷ earlier) latest below here = (omega (arith, below.0), up-to k earlier latest below.1 here)
+up-to : {g : Granting} {earlier latest : List Granted} → HoldsGrants g earlier latest
+    → AllByRecursion (λ x. x.epoch ≤ g.latest) (earlier ++ latest)
+up-to {g = g} {earlier = earlier} {latest = latest} held =
+    each-append (λ x. x.epoch ≤ g.latest) earlier latest
+    (each-weaker (λ (x : Granted). x.epoch < g.latest) (λ x. x.epoch ≤ g.latest)
+    (λ x h. omega (arith, h)) earlier held.below)
+    (each-weaker (λ (x : Granted). x.epoch ≡ g.latest) (λ x. x.epoch ≤ g.latest)
+    (λ x h. omega (arith, h)) latest held.here)
 
 before-next : (k n : ℕ) (grants : List Granted) → k < n → AllByRecursion (λ x. x.epoch ≤ k) grants
     → AllByRecursion (λ x. x.epoch < n) grants
-before-next k n [] h all = tt
-before-next k n (g ∷ grants) h all = (omega (arith, h, all.0), before-next k n grants h all.1)
+before-next k n grants h = each-weaker (λ x. x.epoch ≤ k) (λ x. x.epoch < n) (λ x l. omega (arith, l, h)) grants
 
 none-before : (k : ℕ) (grants : List Granted) → AllByRecursion (λ x. x.epoch < k) grants → of_epoch k grants ≡ []
 none-before k [] all = refl
@@ -31,27 +30,20 @@ all-here : (k : ℕ) (grants : List Granted) → AllByRecursion (λ x. x.epoch �
 all-here k [] all = refl
 all-here k (g ∷ grants) all = rw (eq-eqb g.epoch k all.0) (ap (λ (l : List Granted). g ∷ l) (all-here k grants all.1))
 
-pub of-latest : (k : ℕ) (earlier latest : List Granted) → AllByRecursion (λ x. x.epoch < k) earlier
+of-latest : (k : ℕ) (earlier latest : List Granted) → AllByRecursion (λ x. x.epoch < k) earlier
     → AllByRecursion (λ x. x.epoch ≡ k) latest → of_epoch k (earlier ++ latest) ≡ latest
 of-latest k earlier latest below here =
     filter-append (λ (g : Granted). g.epoch == k) earlier latest ∙ (λ i. none-before k earlier below i ++ all-here k latest here i)
 
-here-more : (k : ℕ) (grants : List Granted) (g : Granted) → AllByRecursion (λ x. x.epoch ≡ k) grants → g.epoch ≡ k
-    → AllByRecursion (λ x. x.epoch ≡ k) (grants ++ g ∷ [])
-here-more k [] g all h = (h, tt)
-here-more k (x ∷ grants) g all h = (all.0, here-more k grants g all.1 h)
-
-here-take : (k i : ℕ) (grants : List Granted) → AllByRecursion (λ x. x.epoch ≡ k) grants → AllByRecursion (λ x. x.epoch ≡ k) (take i grants)
-here-take k zero grants all = tt
-here-take k (suc i) [] all = tt
-here-take k (suc i) (g ∷ grants) all = (all.0, here-take k i grants all.1)
-
 -- no epoch above all of them lacks a name
-pub no-lack-above : (k e n : ℕ) (grants : List Granted) → k < e → AllByRecursion (λ x. x.epoch ≤ k) grants → Lacks grants e n → ⊥
-no-lack-above k e n grants h all lack = omega (arith, lack.0, ap length (none-above k e grants h all))
+no-lack-above : (k e n : ℕ) (grants : List Granted) → k < e → AllByRecursion (λ x. x.epoch ≤ k) grants
+    → Lacks grants e n → ⊥
+no-lack-above k e n grants h all lack =
+    omega (arith, lack.0, ap length (none-before e grants (before-next k e grants h all)))
 
 -- so the first gap of those up to the greatest is the first of those below any other
-pub gap-further : (k end : ℕ) (grants : List Granted) (gap : Option Gap) → k < end → AllByRecursion (λ x. x.epoch ≤ k) grants
+gap-further : (k end : ℕ) (grants : List Granted) (gap : Option Gap) → k < end
+    → AllByRecursion (λ x. x.epoch ≤ k) grants
     → IsGapBelow (k + 1) grants gap → IsGapBelow end grants gap
 gap-further k end grants None h all none = λ e n lt lack. elim (leb_tells e k) [
   | inl w ↦ none e n (omega (arith, w.1)) lack
@@ -67,21 +59,20 @@ gap-further k end grants (Some gap) h all least = record {
   least = least.least;
 }
 
-pub many-clients : (g : Granting) (earlier latest : List Granted) → HoldsGrants g earlier latest → length g.clients.items ≡ length latest
-many-clients g earlier latest held = ap length held.clients ∙ length-occurrences 0 (map (λ (x : Granted). x.client) latest)
-    ∙ length-map latest (λ (x : Granted). x.client)
-
-pub many-names : (g : Granting) (earlier latest : List Granted) → HoldsGrants g earlier latest → length g.names.items ≡ length latest
-many-names g earlier latest held = ap length held.names ∙ length-occurrences 0 (map (λ (x : Granted). x.name) latest)
-    ∙ length-map latest (λ (x : Granted). x.name)
+pub as-many : (f : Granted → ℕ) (latest : List Granted) (items : List Occurrence)
+    → items ≡ occurrences_from 0 (map f latest)
+    → length items ≡ length latest
+as-many f latest items is = ap length is ∙ length-occurrences 0 (map f latest) ∙ length-map latest f
 
 -- what was seen, once a later epoch has come
-pub turned : (old new : Granting) (earlier latest : List Granted) → old.latest < new.latest
+pub turned : {old new : Granting} {earlier latest : List Granted} → HoldsGrants old earlier latest
+    → old.latest < new.latest
     → new.before ≡ old.before + length old.clients.items → new.clients.items ≡ [] → new.names.items ≡ []
-    → IsGapBelow (old.latest + 1) (earlier ++ latest) new.gap → HoldsGrants old earlier latest → HoldsGrants new (earlier ++ latest) []
-turned old new earlier latest h before clients names gap held =
-    let all = up-to old.latest earlier latest held.below held.here in record {
-      before = omega (arith, before, held.before, many-clients old earlier latest held, length-append earlier latest);
+    → IsGapBelow (old.latest + 1) (earlier ++ latest) new.gap → HoldsGrants new (earlier ++ latest) []
+turned {old = old} {new = new} {earlier = earlier} {latest = latest} held h before clients names gap =
+    let all = up-to held in
+    let many = as-many (λ x. x.client) latest old.clients.items held.clients in record {
+      before = omega (arith, before, held.before, many, length-append earlier latest);
       below = before-next old.latest new.latest (earlier ++ latest) h all;
       here = tt;
       clients = clients ∙ no-occurrences 0;
@@ -91,13 +82,11 @@ turned old new earlier latest h before clients names gap held =
     }
 
 -- the form's cause
-pub form-back : (most : ℕ) (before : List Granted) (g : Granted) → g.epoch < last_epoch before → form_cause most before g ≡ Some cause.Form
+pub form-back : (most : ℕ) (before : List Granted) (g : Granted)
+    → (g.epoch < last_epoch before) ⊎ (most ≤ length before)
+    → form_cause most before g ≡ Some cause.Form
 unfolding form_cause
-form-back most before g h = grind (arith, nat_tests, h)
-
-pub form-full : (most : ℕ) (before : List Granted) (g : Granted) → most ≤ length before → form_cause most before g ≡ Some cause.Form
-unfolding form_cause
-form-full most before g h = grind (arith, nat_tests, h)
+form-back most before g h = grind (arith, nat_tests)
 
 pub form-none : (most : ℕ) (before : List Granted) (g : Granted) → last_epoch before ≤ g.epoch → length before < most
     → form_cause most before g ≡ None
@@ -108,48 +97,31 @@ form-none most before g h few = grind (arith, nat_tests, h, few)
 pub of_same : (before : List Granted) (grant : Granted) (e : ℕ) → grant.epoch ≡ e
     → of_epoch e (before ++ grant ∷ []) ≡ of_epoch e before ++ grant ∷ []
 of_same before grant e same = filter-append (λ (g : Granted). g.epoch == e) before (grant ∷ [])
-    ∙ ap (λ (l : List Granted). of_epoch e before ++ l) one
-  where
-    one : of_epoch e (grant ∷ []) ≡ grant ∷ []
-    one = rw (eq-eqb grant.epoch e same) refl
+    ∙ rw (eq-eqb grant.epoch e same) refl
 
 pub of-other : (before : List Granted) (grant : Granted) (e : ℕ) → (grant.epoch ≡ e → ⊥)
     → of_epoch e (before ++ grant ∷ []) ≡ of_epoch e before
 of-other before grant e other =
-    filter-append (λ (g : Granted). g.epoch == e) before (grant ∷ []) ∙ ap (λ (l : List Granted). of_epoch e before ++ l) none
-    ∙ append-nil (of_epoch e before)
-  where
-    none : of_epoch e (grant ∷ []) ≡ []
-    none = rw (ne_eqb grant.epoch e other) refl
-
-lacks-same : (grants more : List Granted) (e n : ℕ) → of_epoch e grants ≡ of_epoch e more → Lacks grants e n → Lacks more e n
-lacks-same grants more e n same lack = subst (λ (xs : List Granted). (n < length xs) × (has_name n xs ≡ false)) same lack
+    filter-append (λ (g : Granted). g.epoch == e) before (grant ∷ [])
+    ∙ rw (ne_eqb grant.epoch e other) (append-nil (of_epoch e before))
 
 gap-more : (before : List Granted) (grant : Granted) (gap : Option Gap) → IsGapBelow grant.epoch before gap
     → IsGapBelow grant.epoch (before ++ grant ∷ []) gap
 gap-more before grant None none = λ e n lt lack.
-    none e n lt (lacks-same (before ++ grant ∷ []) before e n (of-other before grant e (λ x. omega (arith, x, lt))) lack)
-gap-more before grant (Some gap) least = record {
-  below = least.below;
-  lacks = lacks-same before (before ++ grant ∷ []) gap.epoch gap.name
-      (sym (of-other before grant gap.epoch (λ x. omega (arith, x, least.below)))) least.lacks;
-  first = λ e n lt lack. least.first e n lt
-      (lacks-same (before ++ grant ∷ []) before e n (of-other before grant e (λ x. omega (arith, x, lt))) lack);
-  least = λ n lack. least.least n (lacks-same (before ++ grant ∷ []) before gap.epoch n
-      (of-other before grant gap.epoch (λ x. omega (arith, x, least.below))) lack);
-}
+    none e n lt (rw (of-other before grant e (λ x. omega (arith, x, lt))) at lack)
+gap-more before grant (Some gap) least =
+    let same = of-other before grant gap.epoch (λ x. omega (arith, x, least.below)) in record {
+      below = least.below;
+      lacks = rw same least.lacks;
+      first = λ e n lt lack. least.first e n lt (rw (of-other before grant e (λ x. omega (arith, x, lt))) at lack);
+      least = λ n lack. least.least n (rw same at lack);
+    }
 
 -- what is found of the epochs that ended, once the latest does too
 seen-all : (k n : ℕ) (ended : List (ℕ × ℕ)) → k < n → AllByRecursion (λ p. p.0 < k) ended → AllByRecursion (λ p. p.0 < n) ended
-seen-all k n [] h all = tt
-seen-all k n (p ∷ ended) h all = (omega (arith, h, all.0), seen-all k n ended h all.1)
+seen-all k n ended h = each-weaker (λ p. p.0 < k) (λ p. p.0 < n) (λ p l. omega (arith, l, h)) ended
 
-seen-last : (n : ℕ) (ended : List (ℕ × ℕ)) (p : ℕ × ℕ) → AllByRecursion (λ p. p.0 < n) ended → p.0 < n
-    → AllByRecursion (λ p. p.0 < n) (ended ++ p ∷ [])
-seen-last n [] p all h = (h, tt)
-seen-last n (x ∷ ended) p all h = (all.0, seen-last n ended p all.1 h)
-
-pub seen-turn : (ended : List (ℕ × ℕ)) (latest count next : ℕ) (grants : List Granted) → AreSeen ended latest count grants
+seen-turn : (ended : List (ℕ × ℕ)) (latest count next : ℕ) (grants : List Granted) → AreSeen ended latest count grants
     → count ≡ length (of_epoch latest grants) → latest < next
     → AreSeen (ended ++ latest_seen latest count) next 0 grants
 seen-turn ended latest count next grants t size h = elim (leb_tells 1 count) [
@@ -159,7 +131,7 @@ seen-turn ended latest count next grants t size h = elim (leb_tells 1 count) [
     seen = (λ i. t.seen i ++ (latest, size i) ∷ [])
         ∙ sym (map-append (named_epoch grants) (map (λ (p : ℕ × ℕ). p.0) ended) (latest ∷ []))
         ∙ ap (map (named_epoch grants)) (sym (map-append (λ (p : ℕ × ℕ). p.0) ended ((latest, count) ∷ [])));
-    below = seen-last next ended (latest, count) (seen-all latest next ended h t.below) h;
+    below = each-append (λ p. p.0 < next) ended ((latest, count) ∷ []) (seen-all latest next ended h t.below) (h, tt);
   })
   | inr w ↦ rw (w.0, append-nil ended) (record {
     numbers = rw w.0 at t.numbers;
@@ -176,18 +148,6 @@ shared_same latest (p ∷ ended) grants g here all =
     let same : of_epoch p.0 grants ≡ of_epoch p.0 (grants ++ g ∷ []) = sym (of-other grants g p.0 (λ x. omega (arith, x, here, all.0))) in
     λ i. (p.0, length (same i)) ∷ shared_same latest ended grants g here all.1 i
 
-number-last : (n : ℕ) (ended : List (ℕ × ℕ)) → list_any (nat_eq n) (map (λ p. p.0) ended ++ n ∷ []) ≡ true
-number-last n [] = rw (eq-eqb n n refl) refl
-number-last n (p ∷ ended) = ap (λ b. nat_eq n p.0 || b) (number-last n ended) ∙ or_true (nat_eq n p.0)
-  where
-    or_true : (b : Bool) → (b || true) ≡ true
-    or_true true = refl
-    or_true false = refl
-
-number-new : (n : ℕ) (ended : List (ℕ × ℕ)) → AllByRecursion (λ p. p.0 < n) ended → list_any (nat_eq n) (map (λ p. p.0) ended) ≡ false
-number-new n [] all = refl
-number-new n (p ∷ ended) all = rw (ne_eqb n p.0 (λ x. omega (arith, x, all.0))) (number-new n ended all.1)
-
 seen-more : (ended : List (ℕ × ℕ)) (latest count : ℕ) (grants : List Granted) (g : Granted) → AreSeen ended latest count grants
     → g.epoch ≡ latest
     → AreSeen ended latest (count + 1) (grants ++ g ∷ [])
@@ -201,16 +161,19 @@ seen-more ended latest count grants g t here = record {
   where
     each : ((leb 1 count ≡ true) × (1 ≤ count)) ⊎ ((leb 1 count ≡ false) × (count < 1))
         → with_number (map (λ p. p.0) ended ++ latest_number latest count) latest ≡ map (λ p. p.0) ended ++ latest ∷ []
-    each (inl w) = rw w.0 (rw (number-last latest ended) refl)
-    each (inr w) = rw (w.0, append-nil (map (λ (p : ℕ × ℕ). p.0) ended)) (rw (number-new latest ended t.below) refl)
+    each (inl w) = rw w.0 (rw (last-there latest (map (λ p. p.0) ended)) refl)
+    each (inr w) = rw (w.0, append-nil (map (λ (p : ℕ × ℕ). p.0) ended))
+        (rw (any-map (λ p. p.0) latest ended ∙ not-there (λ p. p.0) latest ended t.below) refl)
 
 -- the same of the latest epoch's grants, once it ended
-pub seen-latest : (g : Granting) (earlier latest : List Granted) (ended : List (ℕ × ℕ)) (next : ℕ) → HoldsGrants g earlier latest
+pub seen-latest : {g : Granting} {earlier latest : List Granted} (ended : List (ℕ × ℕ)) (next : ℕ)
+    → HoldsGrants g earlier latest
     → Tells g earlier latest → g.gap ≡ None → g.latest < next
     → ended ≡ map plain_named g.ended.items ++ latest_seen g.latest (length g.clients.items)
     → AreSeen ended next 0 (earlier ++ latest)
-seen-latest g earlier latest ended next held tells none h is =
-    rw (is, many-clients g earlier latest held) (seen-turn (map plain_named g.ended.items) g.latest (length latest) next (earlier ++ latest)
+seen-latest {g = g} {earlier = earlier} {latest = latest} ended next held tells none h is =
+    rw (is, as-many (λ x. x.client) latest g.clients.items held.clients)
+    (seen-turn (map plain_named g.ended.items) g.latest (length latest) next (earlier ++ latest)
     (tells none) (sym (ap length (of-latest g.latest earlier latest held.below held.here))) h)
 
 -- what is found at the end
@@ -219,27 +182,28 @@ pub seen-end : (ended : List (ℕ × ℕ)) (next : ℕ) (grants : List Granted) 
 seen-end ended next grants t = t.seen ∙ ap (map (named_epoch grants)) (sym (t.numbers ∙ append-nil (map (λ (p : ℕ × ℕ). p.0) ended)))
 
 -- one more grant of the latest epoch
-module _ (old new : Granting) (earlier latest : List Granted) (grant : Granted) (held : HoldsGrants old earlier latest)
-    (here : old.latest ≡ grant.epoch) (same : new.latest ≡ old.latest) where
+module _ {old : Granting} {earlier latest : List Granted} (grant : Granted) (held : HoldsGrants old earlier latest)
+    (here : old.latest ≡ grant.epoch) where
   longer : (f : Granted → ℕ) → occurrences_from 0 (map f latest) ++ occurrence (f grant) (length old.clients.items) ∷ []
       ≡ occurrences_from 0 (map f (latest ++ grant ∷ []))
   longer f =
       let place : length old.clients.items ≡ 0 + length (map f latest) =
-      omega (arith, many-clients old earlier latest held, length-map latest f) in
+      omega (arith, as-many (λ x. x.client) latest old.clients.items held.clients, length-map latest f) in
       ap (λ (p : ℕ). occurrences_from 0 (map f latest) ++ occurrence (f grant) p ∷ []) place
       ∙ sym (occurrences-more 0 (map f latest) (f grant)) ∙ ap (occurrences_from 0) (sym (map-append f latest (grant ∷ [])))
 
-  pub added : new.ended ≡ old.ended → new.gap ≡ old.gap → new.before ≡ old.before
+  pub added : {new : Granting} → new.latest ≡ old.latest → new.ended ≡ old.ended → new.gap ≡ old.gap
+      → new.before ≡ old.before
       → new.clients.items ≡ old.clients.items ++ occurrence grant.client (length old.clients.items) ∷ []
       → new.names.items ≡ old.names.items ++ occurrence grant.name (length old.clients.items) ∷ [] → Tells old earlier latest
       → IsChecked new earlier (latest ++ grant ∷ [])
-  added ended gap before clients names tells =
+  added same ended gap before clients names tells =
       let apart : earlier ++ (latest ++ grant ∷ []) ≡ (earlier ++ latest) ++ grant ∷ [] = sym (append_assoc earlier latest (grant ∷ [])) in
       record {
         holds = record {
           before = before ∙ held.before;
           below = rw same held.below;
-          here = rw same (here-more old.latest latest grant held.here (sym here));
+          here = rw same (each-append (λ x. x.epoch ≡ old.latest) latest (grant ∷ []) held.here (sym here, tt));
           clients = clients ∙ ap (λ (l : List Occurrence). l ++ occurrence grant.client (length old.clients.items) ∷ []) held.clients
               ∙ longer (λ x. x.client);
           names = names ∙ ap (λ (l : List Occurrence). l ++ occurrence grant.name (length old.clients.items) ∷ []) held.names
@@ -270,7 +234,9 @@ module _ (k : ℕ) (earlier latest : List Granted) (below : AllByRecursion (λ x
 
   these : of_epoch g.epoch (earlier ++ take i latest) ≡ take i latest
   these = ap (λ (e : ℕ). of_epoch e (earlier ++ take i latest)) epoch
-      ∙ of-latest k earlier (take i latest) below (here-take k i latest here)
+      ∙ of-latest k earlier (take i latest) below (recursion_from_All (λ (x : Granted). x.epoch ≡ k) (take i latest)
+      (All-take (λ (x : Granted). x.epoch ≡ k) i latest
+      (All-from_recursion (λ (x : Granted). x.epoch ≡ k) latest here)))
 
   as_far : length (take i latest) ≡ i
   as_far = length-take-le i latest (omega (arith, within))
@@ -315,7 +281,7 @@ not-before : (ns : List ℕ) (first : Option ℕ) (end : ℕ) → IsFirstRepeat 
 not-before ns None end none le far i h again = none i (omega (arith, h, le)) again
 not-before ns (Some p) end (inside, is, first) le far i h again = first i (omega (arith, h, far)) again
 
-nobody : Granted
+pub nobody : Granted
 nobody = record { epoch = 0; client = 0; name = 0 }
 
 module _ (g : Granting) (earlier latest : List Granted) (held : HoldsGrants g earlier latest) where
@@ -410,17 +376,11 @@ module _ (g : Granting) (earlier latest : List Granted) (held : HoldsGrants g ea
     ];
   }
 
-pub is-none : (gap : Option Gap) → is_some gap ≡ false → gap ≡ None
-is-none None e = refl
-is-none (Some gap) e = cc e
+pub is-none : {gap : Option Gap} → is_some gap ≡ false → gap ≡ None
+is-none e = grind (arith, e)
 
--- the names of the latest epoch are those that stand in order
-pub named : (latest : List Granted) (n : ℕ) → has_number (map (λ (x : Granted). x.name) latest) n ≡ has_name n latest
-named [] n = refl
-named (x ∷ latest) n = ap (λ b. nat_eq n x.name || b) (named latest n)
-
-pub no_gap : (g : Granting) (earlier latest : List Granted) → HoldsGrants g earlier latest
+pub no_gap : {g : Granting} {earlier latest : List Granted} → HoldsGrants g earlier latest
     → IsGapBelow (g.latest + 1) (earlier ++ latest) None → (e n : ℕ) → Lacks (earlier ++ latest) e n → ⊥
-no_gap g earlier latest held none e n lack =
-    gap-further g.latest (e + g.latest + 1) (earlier ++ latest) None (omega arith) (up-to g.latest earlier latest held.below held.here) none
-    e n (omega arith) lack
+no_gap {g = g} {earlier = earlier} {latest = latest} held none e n lack =
+    gap-further g.latest (e + g.latest + 1) (earlier ++ latest) None (omega arith) (up-to held) none e n
+    (omega arith) lack

@@ -1,9 +1,12 @@
 -- Numbers whose occurrences were sorted: where one stands at an earlier place, and which are missing.
-use Rattle.cn_texts.proofs.Common.{◌≡◌, ◌<◌, ◌≤◌, ◌+◌, ◌-◌, ℕ, List, [], ◌∷◌, ◌++◌, true, false, Option, Some, None, length, get_or, refl, arith, suc, zero, sym, ap, ◌∙◌, inl, inr, map, subst, ◌⊎◌, All, nat_eq, range_with_len, All-get_or, get_or-map, length-map, ne_eqb, eq-eqb, leb_tells, nat_tests, leb, IfSome, MatchOption, All-from_get_or, list_any_at, list_any_none, All-permutation, IsPermutation-map, length_permutation, list_any-IsPermutation, ranks_by, sorted_far, times, times-inside, times-order, times-place, times-two, IsFirstRepeat, IsRepeat, has_number, numbers_of, occurrences_from, Occurrence}
+use Rattle.cn_texts.proofs.Common.{◌≡◌, ◌<◌, ◌≤◌, ◌+◌, ◌-◌, ℕ, List, [], ◌∷◌, ◌++◌, true, false, Option, Some, None, length, get_or, refl, arith, suc, zero, sym, ap, ◌∙◌, inl, inr, map, subst, ◌⊎◌, All, nat_eq, range_with_len, All-get_or, get_or-map, length-map, ne_eqb, eq-eqb, leb_tells, nat_tests, IfSome, MatchOption, All-from_get_or, list_any_at, list_any_none, All-permutation, IsPermutation-map, length_permutation, list_any-IsPermutation, ranks_by, sorted_far, times, times-inside, times-order, times-place, times-two, IsFirstRepeat, IsRepeat, has_number, numbers_of, occurrences_from, Occurrence}
 use Rattle.std.specs.List.Sorted.{IsPermutation, IsSorted, IsStrictlyIncreasing}
 use Rattle.std.specs.Ordering.{is_lt, nat_cmp, ordering_then}
 use Rattle.std.proofs.lemmas.Cmp.{nat_cmp_total, on_total, then_total}
 use Rattle.std.specs.Cmp.{IsStrictWeakOrder}
+use Rattle.std.proofs.lemmas.Bool.{cases_order}
+use Rattle.std.proofs.lemmas.List.Kept.{AllPairs-from_increasing}
+use Rattle.std.proofs.lemmas.Option.{same_Some}
 
 -- ---- occurrences in order
 
@@ -81,50 +84,53 @@ abbrev pub IsAgain : List Occurrence → ℕ → Type 0
 IsAgain s b = (0 < b) × (number_at s (b - 1) ≡ number_at s b)
 
 -- the least place of those below an index that do
-pub IsSeen : List Occurrence → ℕ → Option ℕ → Type 0
-IsSeen s at first = MatchOption first ((b : ℕ) → b < at → IsAgain s b → ⊥)
-    (λ place. ((b : ℕ) × (b < length s) × IsAgain s b × (place_at s b ≡ place)) × ((b : ℕ) → b < at → IsAgain s b → place ≤ place_at s b))
+pub record IsSeen (s : List Occurrence) (at : ℕ) (first : Option ℕ) : Type 0 where
+  pub found : IfSome first (λ place. (b : ℕ) × (b < length s) × IsAgain s b × (place_at s b ≡ place))
+  pub least : (b : ℕ) → b < at → IsAgain s b → MatchOption first ⊥ (λ place. place ≤ place_at s b)
 
 pub seen-first : (s : List Occurrence) → IsSeen s 1 None
-unfolding IsSeen
-seen-first s = λ b h again. omega (arith, h, again.0)
+seen-first s = record { found = tt; least = λ b h again. omega (arith, h, again.0) }
 
 cut : (b at : ℕ) → b < at + 1 → (b < at) ⊎ (b ≡ at)
 cut b at h = elim (leb_tells (suc b) at) [ inl w ↦ inl (omega (arith, w.1)) | inr w ↦ inr (omega (arith, w.1, h)) ]
 
 -- one index more, which does not
-pub seen-other : (s : List Occurrence) (at : ℕ) (first : Option ℕ) → (number_at s (at - 1) ≡ number_at s at → ⊥)
-    → IsSeen s at first → IsSeen s (at + 1) first
-unfolding IsSeen
-seen-other s at None other seen = λ b h again.
-    elim (cut b at h) [ inl k ↦ seen b k again | inr is ↦ other (subst (IsAgain s) is again).1 ]
-seen-other s at (Some place) other ((b, h, again, is), least) = (
-  (b, h, again, is),
-  λ c k same. elim (cut c at k) [ inl l ↦ least c l same | inr here ↦ absurd (other (subst (IsAgain s) here same).1) ],
-)
+pub seen-other : {s : List Occurrence} {at : ℕ} {first : Option ℕ} → IsSeen s at first
+    → (number_at s (at - 1) ≡ number_at s at → ⊥)
+    → IsSeen s (at + 1) first
+seen-other {s = s} {at = at} seen other = record {
+  found = seen.found;
+  least = λ b h again.
+      elim (cut b at h) [ inl k ↦ seen.least b k again | inr is ↦ absurd (other (subst (IsAgain s) is again).1) ];
+}
 
 -- one index more, which does
-pub seen-again : (s : List Occurrence) (at : ℕ) (first : Option ℕ) (place : ℕ) → at < length s → IsAgain s at → place ≤ place_at s at
-    → IfSome first (λ other. place ≤ other) → (place ≡ place_at s at) ⊎ (first ≡ Some place)
-    → IsSeen s at first → IsSeen s (at + 1) (Some place)
-unfolding IsSeen
-seen-again s at None place inside again low lower one seen = (
-  elim one [ inl is ↦ (at, inside, again, sym is) | inr is ↦ cc is ],
-  λ c k same. elim (cut c at k) [ inl l ↦ absurd (seen c l same) | inr here ↦ omega (arith, low, ap (place_at s) here) ],
-)
-seen-again s at (Some other) place inside again low lower one ((b, h, was, is), least) = (
-  elim one [ inl here ↦ (at, inside, again, sym here) | inr e ↦ (b, h, was, is ∙ (let same : other ≡ place = cc e in same)) ],
-  λ c k same. elim (cut c at k) [
-    | inl l ↦ omega (arith, least c l same, lower)
+pub seen-again : {s : List Occurrence} {at : ℕ} (first : Option ℕ) {place : ℕ} → IsSeen s at first → at < length s
+    → IsAgain s at
+    → place ≤ place_at s at → IfSome first (λ other. place ≤ other) → (place ≡ place_at s at) ⊎ (first ≡ Some place)
+    → IsSeen s (at + 1) (Some place)
+seen-again {s = s} {at = at} None seen inside again low lower one = record {
+  found = elim one [ inl is ↦ (at, inside, again, sym is) | inr is ↦ cc is ];
+  least = λ c k same.
+      elim (cut c at k) [ inl l ↦ absurd (seen.least c l same) | inr here ↦ omega (arith, low, ap (place_at s) here) ];
+}
+seen-again {s = s} {at = at} (Some other) seen inside again low lower one = record {
+  found = elim one [
+    | inl here ↦ (at, inside, again, sym here)
+    | inr e ↦
+        let (b, h, was, is) = seen.found in
+        (b, h, was, is ∙ same_Some _ _ e)
+  ];
+  least = λ c k same. elim (cut c at k) [
+    | inl l ↦ omega (arith, seen.least c l same, lower)
     | inr here ↦ omega (arith, low, ap (place_at s) here)
-  ],
-)
+  ];
+}
 
 -- at the end
-pub seen-all : (s : List Occurrence) (at : ℕ) (first : Option ℕ) → length s ≤ at → IsSeen s at first → IsSeen s (length s) first
-unfolding IsSeen
-seen-all s at None past seen = λ b h again. seen b (omega (arith, h, past)) again
-seen-all s at (Some place) past (there, least) = (there, λ c k same. least c (omega (arith, k, past)) same)
+pub seen-all : {s : List Occurrence} {at : ℕ} {first : Option ℕ} → IsSeen s at first → length s ≤ at
+    → IsSeen s (length s) first
+seen-all seen past = record { found = seen.found; least = λ b h. seen.least b (omega (arith, h, past)) }
 
 module _ (ns : List ℕ) (s : List Occurrence) (order : IsPermutation (occurrences_from 0 ns) s)
     (sorted : IsSorted (λ (x y : Occurrence). ordering_then (nat_cmp x.number y.number) (nat_cmp x.place y.place)) s) where
@@ -179,18 +185,15 @@ module _ (ns : List ℕ) (s : List Occurrence) (order : IsPermutation (occurrenc
       let (i, i-in, i-is, i-number) = find q (omega (arith, less, h)) in
       let (j, j-in, j-is, j-number) = find p h in
       let same : number_at s i ≡ number_at s j = i-number ∙ e ∙ sym j-number in
-      later i i-in i-is j j-in j-is same (leb_tells (suc i) j)
-    where
-      later : (i : ℕ) → i < length s → place_at s i ≡ q → (j : ℕ) → j < length s → place_at s j ≡ p → number_at s i ≡ number_at s j
-          → ((leb (suc i) j ≡ true) × (suc i ≤ j)) ⊎ ((leb (suc i) j ≡ false) × (j < suc i))
-          → (b : ℕ) × (b < length s) × IsAgain s b × (place_at s b ≡ p)
-      later i i-in i-is j j-in j-is same (inl w) =
-          let first = never-falls i (j - 1) (omega (arith, w.1)) (omega (arith, j-in)) in
-          let last = never-falls (j - 1) j (omega arith) j-in in
-          (j, j-in, (omega (arith, w.1), omega (arith, first, last, same)), j-is)
-      later i i-in i-is j j-in j-is same (inr w) = elim (in-turn j i (omega (arith, w.1)) i-in) [
-        | inl more ↦ absurd (omega (arith, more, same))
-        | inr turn ↦ absurd (omega (arith, turn.1, i-is, j-is, less))
+      elim (leb_tells (suc i) j) [
+        | inl w ↦
+            let first = never-falls i (j - 1) (omega (arith, w.1)) (omega (arith, j-in)) in
+            let last = never-falls (j - 1) j (omega arith) j-in in
+            (j, j-in, (omega (arith, w.1), omega (arith, first, last, same)), j-is)
+        | inr w ↦ elim (in-turn j i (omega (arith, w.1)) i-in) [
+          | inl more ↦ absurd (omega (arith, more, same))
+          | inr turn ↦ absurd (omega (arith, turn.1, i-is, j-is, less))
+        ]
       ]
 
   -- and no other
@@ -199,30 +202,27 @@ module _ (ns : List ℕ) (s : List Occurrence) (order : IsPermutation (occurrenc
       let before : b - 1 < b = omega (arith, some) in
       let (within, here) = placed b h in
       let there = (placed (b - 1) (omega (arith, h))).1 in
-      (within, (place_at s (b - 1), less (leb_tells (suc (place_at s (b - 1))) (place_at s b)) before, there ∙ e ∙ sym here))
-    where
-      less : ((leb (suc (place_at s (b - 1))) (place_at s b) ≡ true) × (suc (place_at s (b - 1)) ≤ place_at s b))
-          ⊎ ((leb (suc (place_at s (b - 1))) (place_at s b) ≡ false) × (place_at s b < suc (place_at s (b - 1)))) → b - 1 < b
-          → place_at s (b - 1) < place_at s b
-      less (inl w) before = omega (arith, w.1)
-      less (inr w) before = elim (in-turn (b - 1) b (omega arith) h) [
-        | inl more ↦ absurd (omega (arith, more, e))
-        | inr turn ↦ absurd (apart (b - 1) b before h (omega (arith, w.1, turn.1)))
-      ]
+      let less = elim (leb_tells (suc (place_at s (b - 1))) (place_at s b)) as
+      (λ _. place_at s (b - 1) < place_at s b) [
+        | inl w ↦ w.1
+        | inr w ↦ elim (in-turn (b - 1) b (omega arith) h) [
+          | inl more ↦ absurd (omega (arith, more, e))
+          | inr turn ↦ absurd (apart (b - 1) b before h (omega (arith, w.1, turn.1)))
+        ]
+      ] in
+      (within, (place_at s (b - 1), less, there ∙ e ∙ sym here))
 
   pub repeat-first : (first : Option ℕ) → IsSeen s (length s) first → IsFirstRepeat ns first
-  unfolding IsSeen
-  repeat-first None seen = λ place h again. let (b, k, is, here) = complete place h again in seen b k is
-  repeat-first (Some place) ((b, h, again, is), least) = (
+  repeat-first None seen = λ place h again. let (b, k, is, here) = complete place h again in seen.least b k is
+  repeat-first (Some place) seen = let (b, h, again, is) = seen.found in (
     omega (arith, (sound b h again).0, is),
     subst (IsRepeat ns) is (sound b h again).1,
     λ p less other.
         let (c, k, was, here) = complete p (omega (arith, less, (sound b h again).0, is)) other in
-        omega (arith, least c k was, here, less),
+        omega (arith, seen.least c k was, here, less),
   )
 
   pub none-rising : IsSeen s (length s) None → IsStrictlyIncreasing (numbers_of s)
-  unfolding IsSeen
   none-rising seen = λ k h.
       let size = length-map s (λ (o : Occurrence). o.number) in
       let here = get_or-map (λ (o : Occurrence). o.number) s k (occurrence 0 0) 0 (omega (arith, h, size)) in
@@ -230,38 +230,33 @@ module _ (ns : List ℕ) (s : List Occurrence) (order : IsPermutation (occurrenc
       let before : k + 1 - 1 ≡ k = omega arith in
       elim (in-turn k (k + 1) (omega arith) (omega (arith, h, size))) [
         | inl less ↦ omega (arith, less, here, there)
-        | inr same ↦ absurd (seen (k + 1) (omega (arith, h, size)) (omega arith, ap (number_at s) before ∙ same.0))
+        | inr same ↦ absurd (seen.least (k + 1) (omega (arith, h, size))
+            (omega arith, ap (number_at s) before ∙ same.0))
       ]
 
 -- ---- the least number that is missing
 
-module _ (ns : List ℕ) (rising : IsStrictlyIncreasing ns) where
-  -- from one index to another they rise at least as far as the index does
-  rise-by : (i j : ℕ) → i ≤ j → j < length ns → get_or ns i 0 + (j - i) ≤ get_or ns j 0
-  rise-by i zero le h = omega (arith, ap (λ (k : ℕ). get_or ns k 0) (let same : i ≡ 0 = omega (arith, le) in same))
-  rise-by i (suc j) le h =
-      let next = ap (λ (k : ℕ). get_or ns k 0) (let same : j + 1 ≡ suc j = omega arith in same) in
-      elim (leb_tells i j) [
-        | inl w ↦ omega (arith, rise-by i j w.1 (omega (arith, h)), rising j (omega (arith, h)), next, w.1)
-        | inr w ↦ omega (arith, w.1, ap (λ (k : ℕ). get_or ns k 0) (let same : i ≡ suc j = omega (arith, le, w.1) in same))
-      ]
+-- where the first of rising numbers differs from its index the index is missing
+pub missing-there : (ns : List ℕ) → IsStrictlyIncreasing ns → (at : ℕ) → at < length ns
+    → ((k : ℕ) → k < at → get_or ns k 0 ≡ k) → (get_or ns at 0 ≡ at → ⊥) → has_number ns at ≡ false
+missing-there ns rising at h all other =
+    list_any_none (nat_eq at) ns (All-from_get_or (λ (n : ℕ). nat_eq at n ≡ false) ns 0
+    (λ i k. ne_eqb at (get_or ns i 0) (apart i k)))
+  where
+    above : at < get_or ns at 0
+    above = elim (leb_tells 1 at) [
+      | inl w ↦
+          let before = AllPairs-from_increasing ns rising (at - 1) at 0 (omega (arith, w.1)) h in
+          omega (arith, w.1, all (at - 1) (omega (arith, w.1)), before, other)
+      | inr w ↦ omega (arith, w.1, other)
+    ]
 
-  -- where the first differs from its index the index is missing
-  pub missing-there : (at : ℕ) → at < length ns → ((k : ℕ) → k < at → get_or ns k 0 ≡ k) → (get_or ns at 0 ≡ at → ⊥)
-      → has_number ns at ≡ false
-  missing-there at h all other = list_any_none (nat_eq at) ns
-      (All-from_get_or (λ (n : ℕ). nat_eq at n ≡ false) ns 0 (λ i k. each i k (leb_tells (suc i) at)))
-    where
-      above : (i : ℕ) → i < length ns → at ≤ i → at < get_or ns i 0
-      above i k le = elim (leb_tells (get_or ns at 0) at) [
-        | inl w ↦ absurd (other (omega (arith, w.1, rise-by 0 at (omega arith) h)))
-        | inr w ↦ omega (arith, w.1, rise-by at i le k)
-      ]
-
-      each : (i : ℕ) → i < length ns → ((leb (suc i) at ≡ true) × (suc i ≤ at)) ⊎ ((leb (suc i) at ≡ false) × (at < suc i))
-          → nat_eq at (get_or ns i 0) ≡ false
-      each i k (inl w) = ne_eqb at (get_or ns i 0) (λ e. omega (arith, e, all i (omega (arith, w.1)), w.1))
-      each i k (inr w) = ne_eqb at (get_or ns i 0) (λ e. omega (arith, e, above i k (omega (arith, w.1))))
+    apart : (i : ℕ) → i < length ns → at ≡ get_or ns i 0 → ⊥
+    apart i k e = elim (cases_order i at) [
+      | inl same ↦ omega (arith, e, above, ap (λ (n : ℕ). get_or ns n 0) same)
+      | inr (inl less) ↦ omega (arith, e, all i less, less)
+      | inr (inr more) ↦ omega (arith, e, above, AllPairs-from_increasing ns rising at i 0 more k)
+    ]
 
 -- numbers that are their own indexes are there
 pub own-there : (ns : List ℕ) (at : ℕ) → at ≤ length ns → ((k : ℕ) → k < at → get_or ns k 0 ≡ k) → (n : ℕ) → n < at

@@ -1,27 +1,25 @@
 -- A list is tight exactly where no record has a cause and no epoch lacks a name.
-use Rattle.cn_texts.proofs.Common.{nat_tests, ◌≡◌, ◌<◌, ◌≤◌, ◌+◌, ℕ, Bool, List, [], ◌∷◌, ◌++◌, true, false, Option, Some, None, length, map, take, drop, get_or, refl, arith, suc, zero, sym, ap, ◌∙◌, inl, inr, subst, if◌then◌else◌, ◌==◌, ◌≢◌, nat_lt, cons_option, list_any, IfErr, MatchResult, Result, Ok, Err, map-append, length-map, filter-append, eq-eqb, ne_eqb, lt-ltb, le-ltb, eqb_tells, leb_tells, Record, none-some, times, times-append, times-nil, times-cons, IsClean, cause_by, first_cause, form_cause, grant_spelled, grants_spelled, has_client, has_name, of_epoch, spelled_cause, spelled_form, twice_cause, IsFirstWithCause, IsFlaw, IsOutside, AreTightGrants, IsTightList, Lacks, grants_cause, grants_form, record_form, Granted, GrantCause, Flaw, Read, Form, DuplicateClient, DuplicateName, Gap, all_below, at_most_once, once_each, once-there}
+use Rattle.cn_texts.proofs.Common.{nat_tests, ◌≡◌, ◌<◌, ◌≤◌, ℕ, List, [], ◌∷◌, ◌++◌, true, false, Option, Some, None, length, map, take, drop, get_or, refl, arith, suc, zero, sym, ap, ◌∙◌, inl, inr, subst, ◌==◌, ◌≢◌, cons_option, list_any, IfErr, MatchResult, Result, Ok, Err, map-append, filter_map-append, take-append-drop, length-map, filter-append, eq-eqb, eqb_tells, leb_tells, Record, none-some, times, times-append, times-nil, times-cons, IsClean, cause_by, form_cause, grant_spelled, grants_spelled, has_client, has_name, of_epoch, spelled_cause, spelled_form, twice_cause, IsFirstWithCause, IsFlaw, IsOutside, AreTightGrants, IsTightList, Lacks, grants_cause, record_form, Granted, GrantCause, Flaw, Read, Form, DuplicateClient, DuplicateName, Gap, all_below, at_most_once, once_each, once-there}
 use Rattle.cn_texts.specs.Grants.TightList.{header_cause, record_cause}
+use Rattle.std.proofs.lemmas.Bool.{true_from_ne_false}
+use Rattle.std.proofs.Math.Seq.{drop-cons}
+use Rattle.cn_texts.proofs.Each.{absent, any-map, present}
+use Rattle.cn_texts.proofs.ReadingLemmas.FirstFaults.{cause_later, cause-past}
 use Rattle.cn_texts.specs.declared.grants.record.GrantCause.TheVariants as cause
 use Rattle.cn_texts.specs.declared.grants.record.Flaw.TheVariants.{Memory}
 use Rattle.cn_texts.proofs.GrantLemmas.CheckedGrants.{of-other, of_same}
 
 -- a number that some grant has stands among theirs, and one that none has does not
 any-times : (f : Granted → ℕ) (n : ℕ) (gs : List Granted) → list_any (λ g. n == f g) gs ≡ true → 1 ≤ times n (map f gs)
-any-times f n [] h = cc h
-any-times f n (g ∷ gs) h = grind (arith, nat_tests, h, times-cons n (f g) (map f gs), any-times f n gs)
+any-times f n gs h = present n (map f gs) (any-map f n gs ∙ h)
 
 none-times : (f : Granted → ℕ) (n : ℕ) (gs : List Granted) → list_any (λ g. n == f g) gs ≡ false → times n (map f gs) ≡ 0
-none-times f n [] h = times-nil n
-none-times f n (g ∷ gs) h = grind (arith, nat_tests, h, times-cons n (f g) (map f gs), none-times f n gs)
+none-times f n gs h = absent n (map f gs) (any-map f n gs ∙ h)
 
--- of two causes none, where the first of them is none
-first_none : (a b : Option GrantCause) → first_cause a b ≡ None → (a ≡ None) × (b ≡ None)
-first_none (Some x) b e = absurd (none-some x (sym e))
-first_none None b e = (refl, e)
-
-twice-none : (before : List Granted) (g : Granted) → twice_cause before g ≡ None → has_client g.client (of_epoch g.epoch before) ≡ false
-unfolding twice_cause
-twice-none before g none = grind (arith, none)
+twice-none : (most : ℕ) (before : List Granted) (g : Granted) → spelled_cause most before (Some g) ≡ None
+    → has_client g.client (of_epoch g.epoch before) ≡ false
+unfolding form_cause twice_cause
+twice-none most before g none = grind (arith, none)
 
 -- no client stands twice in an epoch
 abbrev pub AreOnce : List Granted → Type 0
@@ -35,7 +33,7 @@ once-next most before g once none e n = elim (eqb_tells g.epoch e) [
 ]
   where
     free : has_client g.client (of_epoch g.epoch before) ≡ false
-    free = twice-none before g (first_none (form_cause most before g) (twice_cause before g) none).1
+    free = twice-none most before g none
 
     -- its own client is one more of those that stand there, of which it was none
     here : g.epoch ≡ e → times n (map (λ (g : Granted). g.client) (of_epoch e before ++ g ∷ [])) ≤ 1
@@ -48,24 +46,23 @@ once-next most before g once none e n = elim (eqb_tells g.epoch e) [
         (grind (arith, nat_tests, none, once e n, times-append n clients (g.client ∷ []), times-cons n g.client [], times-nil n))
 
 -- a cause that another implies
-module _ (header : Record → Option GrantCause) (one other : List Record → Record → Option GrantCause) where
-  weaker : ((before : List Record) (fields : Record) → one before fields ≡ None → other before fields ≡ None)
-      → (records : List Record) (at : ℕ) → cause_by header one records at ≡ None
-      → cause_by header other records at ≡ None
-  unfolding cause_by
-  weaker less records at = each (at == 0) (nat_lt at (length records))
-    where
-      each : (b d : Bool)
-          → (if b then header (get_or records 0 []) else if d then one (take at records) (get_or records at []) else None) ≡ None
-          → (if b then header (get_or records 0 []) else if d then other (take at records) (get_or records at []) else None) ≡ None
-      each true d e = e
-      each false true e = less (take at records) (get_or records at []) e
-      each false false e = e
+weaker : (header : Record → Option GrantCause) (one other : List Record → Record → Option GrantCause)
+    (records : List Record)
+    → ((n : ℕ) → 0 < n → n < length records → one (take n records) (get_or records n []) ≡ None
+    → other (take n records) (get_or records n []) ≡ None)
+    → (at : ℕ) → cause_by header one records at ≡ None → cause_by header other records at ≡ None
+unfolding cause_by
+weaker header one other records less zero e = e
+weaker header one other records less (suc m) e = elim (leb_tells (suc (suc m)) (length records)) [
+  | inl w ↦
+      cause_later header other records (suc m) (omega arith) w.1
+      ∙ less (suc m) (omega arith) w.1 (sym (cause_later header one records (suc m) (omega arith) w.1) ∙ e)
+  | inr w ↦ cause-past header other records (suc m) (omega arith) (omega (arith, w.1))
+]
 
 form_of : (most : ℕ) (before : List Granted) (spelled : Option Granted) → spelled_cause most before spelled ≡ None
     → spelled_form most before spelled ≡ None
-form_of most before None e = e
-form_of most before (Some g) e = (first_none (form_cause most before g) (twice_cause before g) e).0
+form_of most before spelled e = grind (arith, e)
 
 -- an epoch that lacks no name is tight
 epoch-tight : (grants : List Granted) → ((n : ℕ) → times n (map (λ (g : Granted). g.client) grants) ≤ 1)
@@ -76,27 +73,21 @@ epoch-tight grants once there = record {
       (λ n h. any-times (λ g. g.name) n grants (there n h));
 }
 
-not_false : (b : Bool) → (b ≡ false → ⊥) → b ≡ true
-not_false true h = refl
-not_false false h = absurd (h refl)
-
 -- the list is tight where no record has a cause, no client stands twice in an epoch, and no epoch lacks a name
 pub list-tight : (most : ℕ) (records : List Record) (grants : List Granted) → IsClean (grants_cause most) records
     → grants_spelled (drop 1 records) ≡ grants → AreOnce grants → ((e n : ℕ) → Lacks grants e n → ⊥) → IsTightList most records
 list-tight most records grants clean spells once full = record {
-  form = λ at. weaker header_cause (record_cause most) (record_form most)
-      (λ before fields. form_of most (grants_spelled (drop 1 before)) (grant_spelled fields)) records at (clean at);
+  form = λ at. weaker header_cause (record_cause most) (record_form most) records
+      (λ n some h. form_of most (grants_spelled (drop 1 (take n records))) (grant_spelled (get_or records n []))) at
+      (clean at);
   tight = λ e. rw spells (epoch-tight (of_epoch e grants) (once e)
-      (λ n h. not_false (has_name n (of_epoch e grants)) (λ f. full e n (h, f))));
+      (λ n h. true_from_ne_false (has_name n (of_epoch e grants)) (λ f. full e n (h, f))));
 }
 
 -- the other way: each record of a tight list has no cause
 module _ (gb gm : List Granted) (g : Granted) (tight : AreTightGrants (of_epoch g.epoch (gb ++ g ∷ gm))) where
   around : of_epoch g.epoch (gb ++ g ∷ gm) ≡ of_epoch g.epoch gb ++ g ∷ of_epoch g.epoch gm
-  around = filter-append (λ (x : Granted). x.epoch == g.epoch) gb (g ∷ gm) ∙ ap (λ (l : List Granted). of_epoch g.epoch gb ++ l) one
-    where
-      one : of_epoch g.epoch (g ∷ gm) ≡ g ∷ of_epoch g.epoch gm
-      one = rw (eq-eqb g.epoch g.epoch refl) refl
+  around = filter-append (λ (x : Granted). x.epoch == g.epoch) gb (g ∷ gm) ∙ rw (eq-eqb g.epoch g.epoch refl) refl
 
   first_time : (f : Granted → ℕ) → times (f g) (map f (of_epoch g.epoch (gb ++ g ∷ gm))) ≤ 1
       → list_any (λ x. f g == f x) (of_epoch g.epoch gb) ≡ false
@@ -130,22 +121,19 @@ module _ (gb gm : List Granted) (g : Granted) (tight : AreTightGrants (of_epoch 
 -- the grants round a record
 grants-round : (records : List Record) (m : ℕ) (g : Granted) → m < length records → grant_spelled (get_or records m []) ≡ Some g
     → grants_spelled records ≡ grants_spelled (take m records) ++ g ∷ grants_spelled (drop (suc m) records)
-grants-round [] m g h is = absurd (omega (arith, h))
-grants-round (r ∷ records) zero g h is = rw is refl
-grants-round (r ∷ records) (suc m) g h is = each (grant_spelled r) (grants-round records m g (omega (arith, h)) is)
-  where
-    each : (spelled : Option Granted) → grants_spelled records
-        ≡ grants_spelled (take m records) ++ g ∷ grants_spelled (drop (suc m) records)
-        → cons_option spelled (grants_spelled records)
-        ≡ cons_option spelled (grants_spelled (take m records)) ++ g ∷ grants_spelled (drop (suc m) records)
-    each (Some x) more = ap (λ (l : List Granted). x ∷ l) more
-    each None more = more
+grants-round records m g h is =
+    ap grants_spelled (sym (take-append-drop m records)
+    ∙ ap (λ (l : List Record). take m records ++ l) (drop-cons records m [] h))
+    ∙ filter_map-append grant_spelled (take m records) (get_or records m [] ∷ drop (suc m) records)
+    ∙ (λ i. grants_spelled (take m records) ++ cons_option (is i) (grants_spelled (drop (suc m) records)))
 
-at-record : (most : ℕ) (r : Record) (records : List Record) (m : ℕ) → m < length records
-    → ((epoch : ℕ) → AreTightGrants (of_epoch epoch (grants_spelled records)))
-    → spelled_form most (grants_spelled (take m records)) (grant_spelled (get_or records m [])) ≡ None
-    → spelled_cause most (grants_spelled (take m records)) (grant_spelled (get_or records m [])) ≡ None
-at-record most r records m h tight = each (grant_spelled (get_or records m [])) refl
+at-record : (most : ℕ) (records : List Record) (n : ℕ) → 0 < n → n < length records
+    → ((epoch : ℕ) → AreTightGrants (of_epoch epoch (grants_spelled (drop 1 records))))
+    → record_form most (take n records) (get_or records n []) ≡ None
+    → record_cause most (take n records) (get_or records n []) ≡ None
+at-record most [] n some h tight = absurd (omega arith)
+at-record most (r ∷ records) zero some h tight = absurd (omega arith)
+at-record most (r ∷ records) (suc m) some h tight = each (grant_spelled (get_or records m [])) refl
   where
     each : (spelled : Option Granted) → grant_spelled (get_or records m []) ≡ spelled
         → spelled_form most (grants_spelled (take m records)) spelled ≡ None
@@ -153,29 +141,13 @@ at-record most r records m h tight = each (grant_spelled (get_or records m [])) 
     each None is e = e
     each (Some g) is e =
         rw e (no-twice (grants_spelled (take m records)) (grants_spelled (drop (suc m) records)) g
-        (subst (λ (l : List Granted). AreTightGrants (of_epoch g.epoch l)) (grants-round records m g h is) (tight g.epoch)))
-
-tight_at : (most : ℕ) (records : List Record) (at : ℕ) → ((epoch : ℕ) → AreTightGrants (of_epoch epoch (grants_spelled (drop 1 records))))
-    → grants_form most records at ≡ None → grants_cause most records at ≡ None
-unfolding cause_by
-tight_at most records zero tight e = e
-tight_at most [] (suc m) tight e =
-    let past : nat_lt (suc m) 0 ≡ false = le-ltb (suc m) 0 (omega arith) in
-    let nonzero : (suc m == 0) ≡ false = ne_eqb (suc m) 0 (λ x. omega (arith, x)) in
-    rw (nonzero, past) refl
-tight_at most (r ∷ records) (suc m) tight e =
-    let nonzero : (suc m == 0) ≡ false = ne_eqb (suc m) 0 (λ x. omega (arith, x)) in
-    elim (leb_tells (suc m) (length records)) [
-      | inl w ↦
-          let far : nat_lt (suc m) (length (r ∷ records)) ≡ true = lt-ltb (suc m) (length (r ∷ records)) (omega (arith, w.1)) in
-          rw (nonzero, far) (at-record most r records m (omega (arith, w.1)) tight (rw (nonzero, far) at e))
-      | inr w ↦
-          let past : nat_lt (suc m) (length (r ∷ records)) ≡ false = le-ltb (suc m) (length (r ∷ records)) (omega (arith, w.1)) in
-          rw (nonzero, past) refl
-    ]
+        (subst (λ (l : List Granted). AreTightGrants (of_epoch g.epoch l))
+        (grants-round records m g (omega (arith, h)) is) (tight g.epoch)))
 
 tight-clean : (most : ℕ) (records : List Record) → IsTightList most records → IsClean (grants_cause most) records
-tight-clean most records t at = tight_at most records at t.tight (t.form at)
+tight-clean most records t at =
+    weaker header_cause (record_form most) (record_cause most) records
+    (λ n some h. at-record most records n some h t.tight) at (t.form at)
 
 tight-full : (grants : List Granted) → AreTightGrants grants → (n : ℕ) → n < length grants → has_name n grants ≡ false → ⊥
 tight-full grants t n h e =

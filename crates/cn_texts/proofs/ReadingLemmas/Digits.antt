@@ -1,5 +1,6 @@
 -- What digits are worth.
-use Rattle.cn_texts.proofs.Common.{◌≡◌, ◌+◌, ◌*◌, ◌-◌, ◌%◌, ◌&&◌, ◌∙◌, ◌<◌, ◌≤◌, ◌^◌, ℕ, suc, List, [], ◌∷◌, Bool, true, false, ap, drop, get_or, length, refl, arith, Some, None, if◌then◌else◌, Option, nat_le, nat_lt, list_all, nat_tests, digit_value, is_ascii_digit, digits_value, digits_value_after, common_steps, value_in}
+use Rattle.cn_texts.proofs.Common.{◌≡◌, sym, ◌+◌, ◌*◌, ◌-◌, ◌%◌, ◌&&◌, ◌∙◌, ◌<◌, ◌≤◌, ◌^◌, ℕ, suc, List, [], ◌∷◌, true, ap, drop, get_or, length, refl, arith, Some, None, if◌then◌else◌, Option, list_all, nat_tests, digit_value, is_ascii_digit, digits_value, digits_value_after, value_in}
+use Rattle.std.proofs.lemmas.Option.{cond_some}
 use Rattle.std.proofs.Math.Nat.{pow-le-pow_right, pow-suc, pow-succ', pow-zero}
 
 -- a byte that is a digit is worth what it is modulo 16
@@ -12,11 +13,6 @@ sum-more i sum byte before = let next : i + 1 ≡ suc i = omega arith in omega (
 
 pub sum-fits : (i sum byte : ℕ) → i ≤ 18 → 3 * sum + 5 ≤ 5 * 10 ^ i → 10 * sum + byte % 16 < 2 ^ 64
 sum-fits i sum byte few before = let most : 10 ^ i ≤ 10 ^ 18 = pow-le-pow_right {n = 10} (omega arith) few in omega arith
-
--- what both tests say
-pub both-are : (a b : Bool) → (a && b) ≡ true → (a ≡ true) × (b ≡ true)
-both-are true b e = (refl, e)
-both-are false b e = grind (arith, common_steps)
 
 -- the value of a text if each byte is a digit
 abbrev pub front_value : List ℕ → Option ℕ
@@ -56,10 +52,6 @@ led-if-longer ds lead long is = let after : length ds - 19 ≡ 1 = omega arith i
 pub led-if-shorter : (ds : List ℕ) (lead : ℕ) → length ds ≡ 19 → lead ≡ 48 → IsLed ds lead (drop (length ds - 19) ds)
 led-if-shorter ds lead short is = let after : length ds - 19 ≡ 0 = omega arith in rw (after, is) (led-by-zero ds)
 
-some_is-true : (b : Bool) (x y : ℕ) → Some y ≡ (if b then Some x else None) → (b ≡ true) × (y ≡ x)
-some_is-true true x y e = (refl, grind (arith, common_steps))
-some_is-true false x y e = grind (arith, common_steps)
-
 -- bytes that are digits, and what they are worth
 pub record IsWhole (ds : List ℕ) (value : ℕ) : Type 0 where
   pub digits : list_all is_ascii_digit ds ≡ true
@@ -69,17 +61,11 @@ pub with_lead : (ds : List ℕ) (lead : ℕ) (rest : List ℕ) (digit value : �
     → digit_value lead ≡ digit
     → Some value ≡ front_value rest → IsWhole ds (10000000000000000000 * digit + value)
 with_lead ds lead rest digit value led is worth some =
-    let after = some_is-true _ _ _ some in
+    let after = cond_some _ _ _ (sym some) in
     record { digits = led.all ∙ rw (is, after.0) refl; worth = omega (arith, led.worth, worth, after.1) }
 
-within : (n v : ℕ) → 0 < n → v < 2 ^ 64 → (nat_le 1 n && nat_lt v (2 ^ 64)) ≡ true
-within n v some small = grind (arith, nat_tests)
-
-beyond : (n v : ℕ) → 2 ^ 64 ≤ v → (nat_le 1 n && nat_lt v (2 ^ 64)) ≡ false
-beyond n v large = grind (arith, nat_tests)
-
 pub small-whole : (ds : List ℕ) (v : ℕ) → 0 < length ds → IsWhole ds v → v < 2 ^ 64 → Some v ≡ whole_value ds
-small-whole ds v some whole small = rw (whole.digits, whole.worth, within (length ds) v some small) refl
+small-whole ds v some whole small = grind (arith, nat_tests, whole.digits, whole.worth)
 
 pub large-whole : (ds : List ℕ) (v : ℕ) → IsWhole ds v → 2 ^ 64 ≤ v → None ≡ whole_value ds
-large-whole ds v whole large = rw (whole.digits, whole.worth, beyond (length ds) v large) refl
+large-whole ds v whole large = grind (arith, nat_tests, whole.digits, whole.worth)

@@ -1,6 +1,8 @@
 -- The epochs that were gathered, as arrivals.
-use Rattle.cn_texts.proofs.Common.{◌≡◌, ◌<◌, ◌≤◌, ◌+◌, ℕ, List, [], ◌∷◌, ◌++◌, false, Some, length, map, refl, arith, sym, ap, ◌∙◌, inl, inr, append_assoc, subst, length-append, ◌==◌, nat_eq, nat_le, nat_lt, ◌⊎◌, AllByRecursion, flat_map, list_any, map-append, length-map, append-nil, filter-append, fold-append, lt-ltb, le-ltb, le-leb, lt-leb, ne_eqb, eq-eqb, leb_tells, flat_map-append, Client, EpochBackwards, EntryRange, Arrival, BatchEpoch, Gathering, arrival_cause, AreEpochsOf, AreRising, arrivals_of, Bounds, HoldsArrivals, IsGathered, adding_cause, ended_after}
+use Rattle.cn_texts.proofs.Common.{◌≡◌, ◌<◌, ◌≤◌, ◌+◌, ℕ, List, [], ◌∷◌, ◌++◌, false, length, map, refl, arith, sym, ap, ◌∙◌, inl, inr, append_assoc, length-append, ◌==◌, nat_eq, nat_le, nat_lt, AllByRecursion, flat_map, list_any, map-append, length-map, append-nil, filter-append, fold-append, le-ltb, lt-leb, ne_eqb, eq-eqb, leb_tells, nat_tests, flat_map-append, Client, Arrival, BatchEpoch, Gathering, arrival_cause, AreEpochsOf, AreRising, arrivals_of, Bounds, HoldsArrivals, IsGathered, adding_cause, ended_after}
 use Rattle.cn_texts.specs.Reading.Arrival.{last_epoch, of_epoch}
+use Rattle.std.proofs.lemmas.List.{nil_from_length}
+use Rattle.cn_texts.proofs.Each.{each-append, each-weaker}
 
 -- an arrival of this client
 abbrev pub arrival_at : ℕ → Client → Arrival
@@ -31,19 +33,36 @@ same_clients : (n x : ℕ) (cs : List Client)
 same_clients n x [] = refl
 same_clients n x (c ∷ cs) = rw (same_clients n x cs) refl
 
--- an arrival of an epoch below the last goes backwards
-pub backwards : (bounds : Bounds) (before : List Arrival) (a : Arrival) → a.epoch < last_epoch before
-    → arrival_cause bounds before a ≡ Some EpochBackwards
-unfolding arrival_cause
-backwards bounds before a h = rw (lt-ltb a.epoch (last_epoch before) h) refl
+pub rising_more : (es : List BatchEpoch) (e : BatchEpoch) → AreRising es → AllByRecursion (λ x. x.number < e.number) es
+    → AreRising (es ++ e ∷ [])
+unfolding AreRising
+rising_more [] e rising below = (tt, tt)
+rising_more (x ∷ es) e rising below =
+    (each-append (λ y. x.number < y.number) es (e ∷ []) rising.0 (below.0, tt), rising_more es e rising.1 below.1)
 
--- the entry of another is out of range
-pub out_of_range : (bounds : Bounds) (before : List Arrival) (a : Arrival) → last_epoch before ≤ a.epoch → bounds.entries ≤ a.entry
-    → arrival_cause bounds before a ≡ Some EntryRange
-unfolding arrival_cause
-out_of_range bounds before a h out = rw (le-ltb a.epoch (last_epoch before) h, le-leb bounds.entries a.entry out) refl
+-- the epochs once the latest has ended: with it, if it has clients
+pub once-ended : (g : Gathering) (P : List BatchEpoch → Type 0) → (length g.latest.clients.items ≡ 0 → P g.ended.items)
+    → (0 < length g.latest.clients.items → P (g.ended.items ++ g.latest ∷ [])) → P (ended_after g)
+once-ended g P none some = elim (leb_tells 1 (length g.latest.clients.items)) [
+  | inl w ↦ rw w.0 (some w.1)
+  | inr w ↦ rw w.0 (none (omega (arith, w.1)))
+]
 
-module _ (g : Gathering) (before : List Arrival) (held : HoldsArrivals g before) where
+-- all of them are below a greater number
+pub ended-below : (g : Gathering) (n : ℕ) → g.latest.number < n → AllByRecursion (λ x. x.number < g.latest.number) g.ended.items
+    → AllByRecursion (λ x. x.number < n) (ended_after g)
+ended-below g n h below =
+    let all = each-weaker (λ (x : BatchEpoch). x.number < g.latest.number) (λ x. x.number < n)
+    (λ x l. omega (arith, l, h)) g.ended.items
+    below in
+    once-ended g (AllByRecursion (λ x. x.number < n)) (λ none. all)
+    (λ some. each-append (λ x. x.number < n) g.ended.items (g.latest ∷ []) all (h, tt))
+
+-- the client of an arrival
+abbrev pub client_of : Arrival → Client
+client_of a = record { id = a.client; entry = a.entry }
+
+module _ {g : Gathering} {before : List Arrival} (held : HoldsArrivals g before) where
   -- the arrivals of the latest epoch
   latest-only : of_epoch g.latest.number before ≡ arrivals_of g.latest
   latest-only =
@@ -53,113 +72,85 @@ module _ (g : Gathering) (before : List Arrival) (held : HoldsArrivals g before)
       (below-epoch g.latest.number g.latest.number g.ended.items (omega arith) held.below)
       ∙ same-epoch g.latest.number g.latest.clients.items
 
-  -- the cause reported of a client of the latest epoch is that of the arrival
-  pub reported : (bounds : Bounds) (c : Client) → last_epoch before ≤ g.latest.number → c.entry < bounds.entries
-      → length before + 1 ≡ g.next
-      → adding_cause bounds g c ≡ arrival_cause bounds before (arrival_at g.latest.number c)
+  -- the cause of an arrival in whose epoch the gathering has come
+  pub reported-of : (bounds : Bounds) (a : Arrival) → g.latest.number ≡ a.epoch → last_epoch before ≤ a.epoch
+      → a.entry < bounds.entries → length before + 1 ≡ g.next
+      → adding_cause bounds g (client_of a) ≡ arrival_cause bounds before a
   unfolding arrival_cause
-  reported bounds c last within size =
+  reported-of bounds a here last within size =
+      let full : nat_lt bounds.records (length before + 1)
+      ≡ nat_le bounds.records (length before) = grind (arith, nat_tests) in
       rw (
-        le-ltb g.latest.number (last_epoch before) last,
-        lt-leb bounds.entries c.entry within,
+        ← here,
+        le-ltb g.latest.number (last_epoch before) (omega (arith, here, last)),
+        lt-leb bounds.entries a.entry within,
         latest-only,
         held.standing,
-        same_clients g.latest.number c.id g.latest.clients.items,
+        same_clients g.latest.number a.client g.latest.clients.items,
         length-map g.latest.clients.items (arrival_at g.latest.number),
         ← size,
       ) (rw full refl)
-    where
-      full : nat_lt bounds.records (length before + 1) ≡ nat_le bounds.records (length before)
-      full = elim (leb_tells bounds.records (length before)) [
-        | inl w ↦ lt-ltb bounds.records (length before + 1) (omega (arith, w.1)) ∙ sym w.0
-        | inr w ↦ le-ltb bounds.records (length before + 1) (omega (arith, w.1)) ∙ sym w.0
-      ]
 
-all_more : (P : BatchEpoch → Type 0) (es : List BatchEpoch) (e : BatchEpoch) → AllByRecursion P es → P e → AllByRecursion P (es ++ e ∷ [])
-all_more P [] e all last = (last, tt)
-all_more P (x ∷ es) e all last = (all.0, all_more P es e all.1 last)
+  -- that arrival more
+  pub taken_of : {new : Gathering} (a : Arrival) → g.latest.number ≡ a.epoch → new.ended ≡ g.ended
+      → new.latest.number ≡ g.latest.number
+      → new.latest.clients.items ≡ g.latest.clients.items ++ client_of a ∷ []
+      → new.standing.keys ≡ g.standing.keys ++ a.client ∷ []
+      → new.next ≡ length before + 2 → IsGathered new (before ++ a ∷ [])
+  taken_of a here ended number clients keys next = record {
+    holds = record {
+      spells =
+          (λ i. flat_map arrivals_of (ended i).items ++ map (arrival_at (number i)) (clients i))
+          ∙ ap (λ (l : List Arrival). flat_map arrivals_of g.ended.items ++ l)
+          (map-append (arrival_at g.latest.number) g.latest.clients.items (client_of a ∷ []))
+          ∙ sym (append_assoc (flat_map arrivals_of g.ended.items) (arrivals_of g.latest)
+          (arrival_at g.latest.number (client_of a) ∷ []))
+          ∙ (λ i. held.spells i ++ record { epoch = here i; client = a.client; entry = a.entry } ∷ []);
+      rising = rw ended held.rising;
+      some = rw ended held.some;
+      below = rw (ended, number) held.below;
+      standing = keys ∙ ap (λ (l : List ℕ). l ++ a.client ∷ []) held.standing
+          ∙ sym (map-append (λ (c : Client). c.id) g.latest.clients.items (client_of a ∷ []))
+          ∙ ap (map (λ (c : Client). c.id)) (sym clients);
+    };
+    last = fold-append (λ (epoch : ℕ) (a : Arrival). a.epoch) 0 before (a ∷ []) ∙ sym (number ∙ here);
+    next = omega (arith, next, length-append before (a ∷ []));
+  }
 
-pub rising_more : (es : List BatchEpoch) (e : BatchEpoch) → AreRising es → AllByRecursion (λ x. x.number < e.number) es
-    → AreRising (es ++ e ∷ [])
-unfolding AreRising
-rising_more [] e rising below = (tt, tt)
-rising_more (x ∷ es) e rising below = (all_more (λ y. x.number < y.number) es e rising.0 below.0, rising_more es e rising.1 below.1)
+  -- the epochs are those of the arrivals once the latest has ended
+  pub ended-epochs : AreEpochsOf (ended_after g) before
+  ended-epochs = once-ended g (λ epochs. AreEpochsOf epochs before) (λ none. record {
+    rising = held.rising;
+    some = held.some;
+    spells = sym (append-nil (flat_map arrivals_of g.ended.items))
+        ∙ (λ i. flat_map arrivals_of g.ended.items
+        ++ map (arrival_at g.latest.number) (sym (nil_from_length g.latest.clients.items none) i))
+        ∙ held.spells;
+  }) (λ some. record {
+    rising = rising_more g.ended.items g.latest held.rising held.below;
+    some = each-append (λ x. 0 < length x.clients.items) g.ended.items (g.latest ∷ []) held.some (some, tt);
+    spells = flat_map-append arrivals_of g.ended.items (g.latest ∷ [])
+        ∙ ap (λ (l : List Arrival). flat_map arrivals_of g.ended.items ++ l) (append-nil (arrivals_of g.latest)) ∙ held.spells;
+  })
 
-below_more : (k n : ℕ) (es : List BatchEpoch) → k < n → AllByRecursion (λ x. x.number < k) es → AllByRecursion (λ x. x.number < n) es
-below_more k n [] h all = tt
-below_more k n (x ∷ es) h all = (omega (arith, h, all.0), below_more k n es h all.1)
-
--- the epochs are those of the arrivals once the latest has ended
-pub ended-epochs : (g : Gathering) (arrivals : List Arrival) → HoldsArrivals g arrivals → AreEpochsOf (ended_after g) arrivals
-ended-epochs g arrivals held = by g.latest.clients.items refl
-  where
-    by : (cs : List Client) → g.latest.clients.items ≡ cs → AreEpochsOf (ended_after g) arrivals
-    by [] e = rw (le-ltb 0 (length g.latest.clients.items) (omega (arith, ap length e))) (record {
-      rising = held.rising;
-      some = held.some;
-      spells = sym (append-nil (flat_map arrivals_of g.ended.items))
-          ∙ (λ i. flat_map arrivals_of g.ended.items ++ map (arrival_at g.latest.number) (sym e i)) ∙ held.spells;
-    })
-    by (c ∷ cs) e = rw (lt-ltb 0 (length g.latest.clients.items) (omega (arith, ap length e))) (record {
-      rising = rising_more g.ended.items g.latest held.rising held.below;
-      some = all_more (λ x. 0 < length x.clients.items) g.ended.items g.latest held.some (omega (arith, ap length e));
-      spells = flat_map-append arrivals_of g.ended.items (g.latest ∷ [])
-          ∙ ap (λ (l : List Arrival). flat_map arrivals_of g.ended.items ++ l) (append-nil (arrivals_of g.latest)) ∙ held.spells;
-    })
-
--- all of them are below a greater number
-pub ended-below : (g : Gathering) (n : ℕ) → g.latest.number < n → AllByRecursion (λ x. x.number < g.latest.number) g.ended.items
-    → AllByRecursion (λ x. x.number < n) (ended_after g)
-ended-below g n h below =
-    let all = below_more g.latest.number n g.ended.items h below in
-    elim (leb_tells 1 (length g.latest.clients.items)) [
-      | inl w ↦ rw w.0 (all_more (λ x. x.number < n) g.ended.items g.latest all h)
-      | inr w ↦ rw w.0 all
-    ]
-
--- a gathering that has come to a later epoch holds the same arrivals
-pub turned : (old new : Gathering) (n : ℕ) (before : List Arrival) → old.latest.number < n → new.ended.items ≡ ended_after old
-    → new.latest.number ≡ n
-    → new.latest.clients.items ≡ [] → new.standing.keys ≡ [] → HoldsArrivals old before → HoldsArrivals new before
-turned old new n before h ended number clients keys held =
-    let epochs = ended-epochs old before held in record {
-      spells = (λ i. flat_map arrivals_of (ended i) ++ map (arrival_at new.latest.number) (clients i))
-          ∙ append-nil (flat_map arrivals_of (ended_after old)) ∙ epochs.spells;
-      rising = rw ended epochs.rising;
-      some = rw ended epochs.some;
-      below = rw (ended, number) (ended-below old n h held.below);
-      standing = keys ∙ ap (map (λ (c : Client). c.id)) (sym clients);
-    }
-
--- a client more of the latest epoch
-pub added : (old new : Gathering) (before : List Arrival) (c : Client) → HoldsArrivals old before → new.ended ≡ old.ended
-    → new.latest.number ≡ old.latest.number
-    → new.latest.clients.items ≡ old.latest.clients.items ++ c ∷ [] → new.standing.keys ≡ old.standing.keys ++ c.id ∷ []
-    → new.next ≡ length before + 2
-    → IsGathered new (before ++ arrival_at old.latest.number c ∷ [])
-added old new before c held ended number clients keys next = record {
-  holds = record {
-    spells =
-        (λ i. flat_map arrivals_of (ended i).items ++ map (arrival_at (number i)) (clients i))
-        ∙ ap (λ (l : List Arrival). flat_map arrivals_of old.ended.items ++ l)
-        (map-append (arrival_at old.latest.number) old.latest.clients.items (c ∷ []))
-        ∙ sym (append_assoc (flat_map arrivals_of old.ended.items) (arrivals_of old.latest) (arrival_at old.latest.number c ∷ []))
-        ∙ ap (λ (l : List Arrival). l ++ arrival_at old.latest.number c ∷ []) held.spells;
-    rising = rw ended held.rising;
-    some = rw ended held.some;
-    below = rw (ended, number) held.below;
-    standing = keys ∙ ap (λ (l : List ℕ). l ++ c.id ∷ []) held.standing
-        ∙ sym (map-append (λ (c : Client). c.id) old.latest.clients.items (c ∷ [])) ∙ ap (map (λ (c : Client). c.id)) (sym clients);
-  };
-  last = fold-append (λ (epoch : ℕ) (a : Arrival). a.epoch) 0 before (arrival_at old.latest.number c ∷ []) ∙ sym number;
-  next = omega (arith, next, length-append before (arrival_at old.latest.number c ∷ []));
-}
+  -- a gathering that has come to a later epoch holds the same arrivals
+  pub turned : {new : Gathering} {n : ℕ} → g.latest.number < n → new.ended.items ≡ ended_after g → new.latest.number ≡ n
+      → new.latest.clients.items ≡ [] → new.standing.keys ≡ [] → HoldsArrivals new before
+  turned {new = new} {n = n} h ended number clients keys = record {
+    spells = (λ i. flat_map arrivals_of (ended i) ++ map (arrival_at new.latest.number) (clients i))
+        ∙ append-nil (flat_map arrivals_of (ended_after g)) ∙ ended-epochs.spells;
+    rising = rw ended ended-epochs.rising;
+    some = rw ended ended-epochs.some;
+    below = rw (ended, number) (ended-below g n h held.below);
+    standing = keys ∙ ap (map (λ (c : Client). c.id)) (sym clients);
+  }
 
 -- at the start there is none
-pub none-gathered : (g : Gathering) → g.ended.items ≡ [] → g.latest.clients.items ≡ [] → g.latest.number ≡ 0 → g.standing.keys ≡ []
+pub none-gathered : {g : Gathering} → g.ended.items ≡ [] → g.latest.clients.items ≡ [] → g.latest.number ≡ 0
+    → g.standing.keys ≡ []
     → g.next ≡ 1 → IsGathered g []
 unfolding AreRising
-none-gathered g ended clients number keys next = record {
+none-gathered ended clients number keys next = record {
   holds = record {
     spells = rw (ended, clients) refl;
     rising = rw ended tt;
@@ -170,27 +161,3 @@ none-gathered g ended clients number keys next = record {
   last = sym number;
   next = sym next;
 }
-
--- the client of an arrival
-abbrev pub client_of : Arrival → Client
-client_of a = record { id = a.client; entry = a.entry }
-
-as-arrival : (n : ℕ) (a : Arrival) → n ≡ a.epoch → arrival_at n (client_of a) ≡ a
-as-arrival n a e = λ i. record { epoch = e i; client = a.client; entry = a.entry }
-
--- the cause of an arrival in whose epoch the gathering has come
-pub reported-of : (g : Gathering) (before : List Arrival) (bounds : Bounds) (a : Arrival) → HoldsArrivals g before
-    → g.latest.number ≡ a.epoch → last_epoch before ≤ a.epoch → a.entry < bounds.entries
-    → length before + 1 ≡ g.next → adding_cause bounds g (client_of a) ≡ arrival_cause bounds before a
-reported-of g before bounds a held number last within size =
-    reported g before held bounds (client_of a) (omega (arith, number, last)) within size
-    ∙ ap (arrival_cause bounds before) (as-arrival g.latest.number a number)
-
--- that arrival more
-pub taken_of : (old new : Gathering) (before : List Arrival) (a : Arrival) → HoldsArrivals old before → old.latest.number ≡ a.epoch
-    → new.ended ≡ old.ended → new.latest.number ≡ old.latest.number
-    → new.latest.clients.items ≡ old.latest.clients.items ++ client_of a ∷ [] → new.standing.keys ≡ old.standing.keys ++ a.client ∷ []
-    → new.next ≡ length before + 2 → IsGathered new (before ++ a ∷ [])
-taken_of old new before a held here ended number clients keys next =
-    subst (λ (x : Arrival). IsGathered new (before ++ x ∷ [])) (as-arrival old.latest.number a here)
-    (added old new before (client_of a) held ended number clients keys next)

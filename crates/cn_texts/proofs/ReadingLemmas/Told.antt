@@ -1,5 +1,5 @@
 -- Causes that say why a reader stopped.
-use Rattle.cn_texts.proofs.Common.{◌≡◌, ◌∙◌, ℕ, ap, Bool, false, inl, inr, refl, subst, sym, true, has_failed, reader_source, Reader, IsFlawTold, IsRepeatFlaw, flaw_of, grant_cause_of_fault, Flaw, GrantCause, batch_cause_of_fault, HasStopped, IsTold, fault_by, BatchCause}
+use Rattle.cn_texts.proofs.Common.{arith, ◌≡◌, ◌∙◌, ℕ, ap, Bool, false, inl, inr, subst, sym, true, has_failed, reader_source, Reader, IsFlawTold, IsRepeatFlaw, flaw_of, grant_cause_of_fault, Flaw, GrantCause, batch_cause_of_fault, HasStopped, IsTold, fault_by, BatchCause}
 use Rattle.cn_texts.specs.declared.grants.record.Flaw.TheVariants as flaws
 use Rattle.cn_texts.specs.declared.grants.record.GrantCause.TheVariants as grants
 use Rattle.cn_texts.specs.declared.reading.batch_fault.BatchCause.TheVariants as batch
@@ -20,8 +20,7 @@ told-other cause_of cause going other = record {
 }
 
 fault-read : (failed : Bool) → batch.Read ≡ batch_cause_of_fault (fault_by failed) → Read ≡ fault_by failed
-fault-read true e = refl
-fault-read false e = cc e
+fault-read failed e = grind (arith, e)
 
 -- a failed read that is told of a batch
 pub read-stops : {R : Type 0} {failed : R → Bool} {reader : Reader R} (cause : BatchCause)
@@ -33,11 +32,7 @@ read-stops {failed = failed} {reader = reader} cause is e =
 -- ---- the flaw of a grant list
 
 flaw-read : (at n : ℕ) (cause : GrantCause) → flaw_of at cause ≡ flaws.Read n → cause ≡ grants.Read
-flaw-read at n grants.Read e = refl
-flaw-read at n grants.Form e = cc e
-flaw-read at n grants.DuplicateClient e = cc e
-flaw-read at n grants.DuplicateName e = cc e
-flaw-read at n grants.Memory e = cc e
+flaw-read at n cause e = grind (arith, e)
 
 pub flaw-told : {R : Type 0} {failed : R → Bool} {reader : Reader R} (at : ℕ) (cause : GrantCause)
     → IsTold failed grant_cause_of_fault reader cause → IsFlawTold failed reader (flaw_of at cause)

@@ -1,5 +1,5 @@
 -- A text that is put in pieces, part by part.
-use Rattle.cn_texts.proofs.Common.{add-one, zero-add, ◌∷◌, drop, get_or, ◌≡◌, ℕ, ◌+◌, ◌<◌, ◌≤◌, true, false, List, [], ◌++◌, Option, Result, Ok, Err, length, take, ap, ◌∙◌, sym, subst, append_assoc, append-nil, arith, length-append, length-take, take-append-drop, refl, IfErr, flat_map, range_with_len, flat_map_more, take_all, take_more, take-append-le, IsOnItsWay, Pending, Puts, nothing_put, take-length, range_more, Appends, Keeps}
+use Rattle.cn_texts.proofs.Common.{add-one, zero-add, ◌∷◌, drop, get_or, ◌≡◌, ℕ, ◌+◌, ◌<◌, ◌≤◌, true, false, List, [], ◌++◌, Option, Result, Ok, Err, length, take, ap, ◌∙◌, sym, subst, append_assoc, append-nil, arith, length-append, length-take, take-append-drop, refl, IfErr, flat_map, range_with_len, flat_map_more, take_all, take_more, take-append-le, IsOnItsWay, Pending, Puts, nothing_put, take-length, range_more, Appends, Keeps, ◌-◌, Some, None, take-take, take-add}
 use Rattle.std.proofs.KnownBytes.{Appends-kept, Appends-nil, Appends-trans}
 use Rattle.cn_texts.specs.declared.writing.emitting.EmitFault.{EmitFault}
 use Rattle.cn_texts.specs.Writing.Written.{First, HasWritten, Nothing, Whole, Written, written_by}
@@ -55,35 +55,28 @@ cut-off contents first now to text left way =
       subst (Appends (contents first) (contents now)) (sym front) way.grown,
     )
 
--- all of it, if no write failed
-all-out : (start now : Option (List ℕ)) (to : Pending) (text : List ℕ) (way : IsOnItsWay start now to text []) → to.failed ≡ false
-    → to.held ≡ [] → text ≡ way.out
-all-out start now to text way ok none = way.whole ∙ ap (λ (t : List ℕ). way.out ++ t) (way.held ok ∙ ap (λ (t : List ℕ). t ++ []) none)
-    ∙ append-nil way.out
-
--- and also if a flush does
+-- all of it if no write failed, and also if a flush does
 pub ended : {U W : Type 0} (contents : W → Option (List ℕ)) (first now then : W) (to : Pending) (text : List ℕ)
     (result : Result U EmitFault) → to.failed ≡ false → to.held ≡ []
     → IsOnItsWay (contents first) (contents now) to text [] → Keeps (contents now) (contents then)
     → IfErr result (λ fault. fault.written ≡ to.written)
     → HasWritten contents (λ t. t ≡ text) (written_by (λ fault. First fault.written) result) first then
-ended contents first now then to text (Ok done) ok none way kept at =
-    let all = all-out (contents first) (contents now) to text way ok none in (
-      text,
-      refl,
-      subst (Appends (contents first) (contents then)) (sym all)
-          (Appends-kept (contents first) (contents now) (contents then) way.out way.grown kept),
-    )
-ended contents first now then to text (Err fault) ok none way kept at =
-    let all = all-out (contents first) (contents now) to text way ok none in
-    let exact : fault.written ≡ length text = at ∙ way.counted ∙ ap length (sym all) in
-    let front : take fault.written text ≡ way.out = ap (λ n. take n text) exact ∙ take-length text ∙ all in (
-      text,
-      refl,
-      omega (arith, exact),
-      subst (Appends (contents first) (contents then)) (sym front)
-          (Appends-kept (contents first) (contents now) (contents then) way.out way.grown kept),
-    )
+ended {U = U} contents first now then to text result ok none way kept = by result
+  where
+    all : text ≡ way.out
+    all = way.whole ∙ ap (λ (t : List ℕ). way.out ++ t) (way.held ok ∙ ap (λ (t : List ℕ). t ++ []) none)
+        ∙ append-nil way.out
+
+    grown : Appends (contents first) (contents then) text
+    grown = subst (Appends (contents first) (contents then)) (sym all)
+        (Appends-kept (contents first) (contents now) (contents then) way.out way.grown kept)
+
+    by : (result : Result U EmitFault) → IfErr result (λ fault. fault.written ≡ to.written)
+        → HasWritten contents (λ t. t ≡ text) (written_by (λ fault. First fault.written) result) first then
+    by (Ok done) at = (text, refl, grown)
+    by (Err fault) at =
+        let exact : fault.written ≡ length text = at ∙ way.counted ∙ ap length (sym all) in
+        (text, refl, omega (arith, exact), rw (take_all fault.written text (omega (arith, exact))) grown)
 
 -- ---- parts
 
@@ -173,3 +166,18 @@ written-map contents P Q Nothing old new f same = same
 -- a vector that was empty holds the text that was written to it
 pub text-held : (old held text whole : List ℕ) → old ≡ [] → held ≡ old ++ text → text ≡ whole → held ≡ whole
 text-held old held text whole none grows is = grows ∙ ap (λ (t : List ℕ). t ++ text) none ∙ is
+
+-- Known bytes that grow twice.
+
+appends-more : (a b c : Option (List ℕ)) (xs ys : List ℕ) → Appends a b xs → Appends b c ys → Appends a c (xs ++ ys)
+appends-more None b c xs ys p q = tt
+appends-more (Some a) None c xs ys p q = absurd p
+appends-more (Some a) (Some b) None xs ys p q = q
+appends-more (Some a) (Some b) (Some c) xs ys p q = q ∙ ap (λ (t : List ℕ). t ++ ys) p ∙ append_assoc a xs ys
+
+-- the next n bytes of a text, after its first i
+pub front_more : (old now new : Option (List ℕ)) (text : List ℕ) (i n : ℕ) → n ≤ length text - i
+    → Appends old now (take i text) → Appends now new (take n (take (length text - i) (drop i text))) → Appends old new (take (i + n) text)
+front_more old now new text i n within front next =
+    let cut : take n (take (length text - i) (drop i text)) ≡ take n (drop i text) = take-take n (length text - i) (drop i text) within in
+    rw (take-add i n text) (appends-more old now new (take i text) (take n (drop i text)) front (rw cut at next))

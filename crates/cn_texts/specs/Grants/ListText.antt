@@ -1,6 +1,6 @@
 -- The text of a grant list: the header, and for each epoch its names upward, each with its holder. It is what
 -- `TightList.antt` calls a tight list.
-use Rattle.std.specs.Prelude.{ℕ, ◌≡◌, ◌<◌, ◌≤◌, ◌^◌, List, [], ◌∷◌, ◌++◌, ⊤, slice_index, codes, decimal}
+use Rattle.std.specs.Prelude.{ℕ, List, ◌++◌, slice_index, codes, decimal}
 use Rattle.std.specs.List.{flat_map, range_with_len}
 use Rattle.cn_ledger.specs.declared.record.EpochRecord.{EpochRecord}
 

@@ -1,5 +1,5 @@
 -- What an epoch gave out, as texts show it: its exits and their counts, its names and their holders.
-use Rattle.std.specs.Prelude.{ℕ, ◌≡◌, List, [], ◌∷◌, ◌++◌, slice_index, codes, decimal}
+use Rattle.std.specs.Prelude.{ℕ, List, [], ◌∷◌, ◌++◌, slice_index, codes, decimal}
 use Rattle.std.specs.List.{flat_map, range_with_len}
 use Rattle.cn_ledger.specs.declared.record.EpochRecord.{EpochRecord}
 use Rattle.cn_texts.specs.Writing.Text.{line}

@@ -121,7 +121,7 @@ fn granted_from(epoch: &[u8], client: &[u8], name: &[u8]) -> Option<Granted>
 }
 
 /// The grant of a record, if it is one.
-#[tactic(auto, using(crate::proofs::ReadingLemmas::RecordFields::granted_of_three, crate::proofs::ReadingLemmas::RecordFields::granted_of_others))]
+#[tactic(auto, unfolding(crate::specs::Grants::Granted::grant_spelled))]
 pub(crate) fn granted_of(fields: &ByteRecord) -> Option<Granted>
     ensures { result ≡ grant_spelled (fields_of fields.now) }
 {

@@ -66,7 +66,7 @@ fn command_from(op: &[u8], client: &[u8], wire: &[u8]) -> Result<Command, Schedu
 }
 
 /// The command of a record.
-#[tactic(auto, using(crate::proofs::ReadingLemmas::RecordFields::command_of_three, crate::proofs::ReadingLemmas::RecordFields::command_of_others))]
+#[tactic(auto, unfolding(crate::specs::Reading::Command::command_in))]
 pub(crate) fn command_of(fields: &ByteRecord) -> Result<Command, ScheduleCause>
     ensures value { result ≡ command_in (fields_of fields.now) }
     ensures no_read { IfErr result (λ cause. cause ≢ ScheduleCause.Read) }

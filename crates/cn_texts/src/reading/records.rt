@@ -68,7 +68,7 @@ pub(crate) fn next_record<R: ReadTelling>(
 }
 
 /// The field at this place of a record.
-#[tactic(auto, using(crate::proofs::ReadingLemmas::RecordFields::field_within))]
+#[tactic(auto, using(crate::proofs::ReadingLemmas::RecordLists::field_within))]
 pub(crate) fn field(fields: &ByteRecord, place: usize) -> &[u8]
     requires { place < length (fields_of fields.now) }
     ensures { result.now ≡ slice_index_or (fields_of fields.now) place [] }

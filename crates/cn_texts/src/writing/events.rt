@@ -8,45 +8,7 @@ use crate::writing::pieces::Pieces;
 use cn_ledger::{EnterFault, Moved, Reply, StepFault};
 use std::io::Write;
 
-/// Sends a line as `pass 7 balancer 0 number 0 wire 2`.
-fn send_pass<W: Write>(
-    pieces: &mut Pieces,
-    writer: &mut W,
-    client: u64,
-    balancer: u32,
-    number: u64,
-    wire: u32,
-)
-    ensures { Puts W.contents writer.old writer.new pieces.old pieces.new
-        (moved_line client (Moved.On balancer number wire)) }
-{
-    send_number(pieces, writer, "pass ", client);
-    send_number(pieces, writer, " balancer ", balancer);
-    send_number(pieces, writer, " number ", number);
-    send_number(pieces, writer, " wire ", wire);
-    pieces.put(writer, b"\n");
-}
-
-/// Sends a line as `leave 7 exit 0 visit 0 name 0`.
-fn send_leave<W: Write>(
-    pieces: &mut Pieces,
-    writer: &mut W,
-    client: u64,
-    exit: u32,
-    visit: u64,
-    name: u64,
-)
-    ensures { Puts W.contents writer.old writer.new pieces.old pieces.new
-        (moved_line client (Moved.Out exit visit name)) }
-{
-    send_number(pieces, writer, "leave ", client);
-    send_number(pieces, writer, " exit ", exit);
-    send_number(pieces, writer, " visit ", visit);
-    send_number(pieces, writer, " name ", name);
-    pieces.put(writer, b"\n");
-}
-
-/// Sends the line of a step that was taken.
+/// Sends the line of a step that was taken, as `pass 7 balancer 0 number 0 wire 2` or `leave 7 exit 0 visit 0 name 0`.
 fn send_moved<W: Write>(pieces: &mut Pieces, writer: &mut W, client: u64, moved: Moved)
     ensures { Puts W.contents writer.old writer.new pieces.old pieces.new (moved_line client moved) }
 {
@@ -55,8 +17,20 @@ fn send_moved<W: Write>(pieces: &mut Pieces, writer: &mut W, client: u64, moved:
             balancer,
             number,
             wire,
-        } => send_pass(pieces, writer, client, balancer, number, wire),
-        Moved::Out { exit, visit, name } => send_leave(pieces, writer, client, exit, visit, name),
+        } => {
+            send_number(pieces, writer, "pass ", client);
+            send_number(pieces, writer, " balancer ", balancer);
+            send_number(pieces, writer, " number ", number);
+            send_number(pieces, writer, " wire ", wire);
+            pieces.put(writer, b"\n");
+        }
+        Moved::Out { exit, visit, name } => {
+            send_number(pieces, writer, "leave ", client);
+            send_number(pieces, writer, " exit ", exit);
+            send_number(pieces, writer, " visit ", visit);
+            send_number(pieces, writer, " name ", name);
+            pieces.put(writer, b"\n");
+        }
     }
 }
 

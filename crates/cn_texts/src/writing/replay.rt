@@ -5,7 +5,7 @@ ghost use Rattle.std.specs.List.{All};
 ghost use Rattle.cn_spec.specs.declared.limits.TheConstants.{MOST_ENDS};
 ghost use Rattle.cn_texts.specs.Writing.Outcome.{exit_lines};
 ghost use Rattle.cn_texts.specs.Writing.Pieces.{Puts, RestsIfFailed, nothing_put};
-ghost use Rattle.cn_texts.specs.Writing.Replay.{IsShowable, IsShowableRecord, answer_line, answer_lines, end_line, not_quiet_line, record_lines, replay_text, shown_counts, turn_line};
+ghost use Rattle.cn_texts.specs.Writing.Replay.{IsShowable, IsShowableRecord, answer_line, answer_lines, end_line, record_lines, replay_text, shown_counts};
 ghost use Rattle.cn_texts.specs.Writing.Written.{First, HasWritten, written_by};
 
 use crate::writing::emitting::EmitFault;
@@ -29,14 +29,6 @@ pub struct OpenEpoch {
     pub inside: u64,
 }
 
-/// Sends a line as `turn epoch 0 clients 1`.
-#[tactic(auto, unfolding(crate::specs::Writing::Replay::turn_line))]
-fn send_turn<W: Write>(pieces: &mut Pieces, writer: &mut W, number: u64, clients: u64)
-    ensures { Puts W.contents writer.old writer.new pieces.old pieces.new (turn_line number clients) }
-{
-    send_line(pieces, writer, "turn epoch ", number, " clients ", clients);
-}
-
 /// Sends a line for each exit and its count, which is its share of the clients if the counts are left out.
 fn send_shown_counts<W: Write>(pieces: &mut Pieces, writer: &mut W, width: u32, epoch: &EpochRecord)
     requires width { width ≤ MOST_ENDS }
@@ -51,28 +43,27 @@ fn send_shown_counts<W: Write>(pieces: &mut Pieces, writer: &mut W, width: u32, 
     }
 }
 
-/// Sends what an epoch gave out: the line of its turn, its exits and its names.
+/// Sends what an epoch gave out: the line of its turn, as `turn epoch 0 clients 1`, its exits and its names.
 fn send_record<W: Write>(pieces: &mut Pieces, writer: &mut W, width: u32, epoch: &EpochRecord)
     requires width { width ≤ MOST_ENDS }
     requires showable { IsShowableRecord width epoch.now }
     ensures { Puts W.contents writer.old writer.new pieces.old pieces.new (record_lines width epoch.now) }
 {
-    send_turn(pieces, writer, epoch.number, epoch.clients);
+    send_line(
+        pieces,
+        writer,
+        "turn epoch ",
+        epoch.number,
+        " clients ",
+        epoch.clients,
+    );
     send_shown_counts(pieces, writer, width, epoch);
     send_holders(pieces, writer, &epoch.holders);
 }
 
-/// Sends a line as `refused turn NotQuiet 1`.
-#[tactic(auto, unfolding(crate::specs::Writing::Replay::not_quiet_line))]
-fn send_not_quiet<W: Write>(pieces: &mut Pieces, writer: &mut W, inside: u64)
-    ensures { Puts W.contents writer.old writer.new pieces.old pieces.new (not_quiet_line inside) }
-{
-    send_numbered(pieces, writer, "refused turn NotQuiet ", inside, "\n");
-}
-
 /// Sends the lines of a command and its answer, unless a write failed. An answer that does not fit its command, or is
 /// want of memory, has none.
-#[tactic(auto, unfolding(crate::specs::Writing::Replay::answer_line))]
+#[tactic(auto, unfolding(crate::specs::Writing::Replay::answer_line, crate::specs::Writing::Replay::not_quiet_line))]
 fn send_answer<W: Write>(
     pieces: &mut Pieces,
     writer: &mut W,
@@ -97,7 +88,7 @@ fn send_answer<W: Write>(
         }
         (Command::Turn, Answer::Turned(epoch)) => send_record(pieces, writer, width, epoch),
         (Command::Turn, Answer::TurnRefused(TurnFault::NotQuiet(inside))) => {
-            send_not_quiet(pieces, writer, *inside);
+            send_numbered(pieces, writer, "refused turn NotQuiet ", *inside, "\n");
         }
         _ => {}
     }

@@ -2,7 +2,7 @@
 
 ghost use Rattle.std.specs.Prelude.{◌≡◌};
 ghost use Rattle.cn_texts.specs.Writing.Pieces.{Puts, nothing_put};
-ghost use Rattle.cn_texts.specs.Writing.Wiring.{wire_line, wire_lines, wires_line, wiring_text};
+ghost use Rattle.cn_texts.specs.Writing.Wiring.{wire_line, wire_lines, wiring_text};
 ghost use Rattle.cn_texts.specs.Writing.Written.{First, HasWritten, written_by};
 
 use crate::writing::emitting::EmitFault;
@@ -42,14 +42,6 @@ fn send_wires<W: Write>(pieces: &mut Pieces, writer: &mut W, network: &Counting)
     }
 }
 
-/// Sends a line as `end wires 7`.
-#[tactic(auto, unfolding(crate::specs::Writing::Wiring::wires_line))]
-fn send_end<W: Write>(pieces: &mut Pieces, writer: &mut W, wires: u32)
-    ensures { Puts W.contents writer.old writer.new pieces.old pieces.new (wires_line wires) }
-{
-    send_numbered(pieces, writer, "end wires ", wires, "\n");
-}
-
 /// Writes the text of a network's wiring in pieces, and flushes once at the end: its heading, a line for each wire with
 /// the balancer or exit at which it ends, and how many wires there are. It takes no memory.
 ///
@@ -68,10 +60,12 @@ pub fn write_wiring<W: Write>(
     let mut pieces = pieces;
     send_heading(&mut pieces, writer, network);
     send_wires(&mut pieces, writer, network);
-    send_end(
+    send_numbered(
         &mut pieces,
         writer,
+        "end wires ",
         network.entries() + 2 * network.balancers(),
+        "\n",
     );
     pieces.finish(writer)
 }

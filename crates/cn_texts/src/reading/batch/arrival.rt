@@ -61,7 +61,7 @@ fn arrival_from(epoch: &[u8], client: &[u8], entry: &[u8]) -> Result<Arrival, Ba
 }
 
 /// The arrival of a record that gives its entry.
-#[tactic(auto, using(crate::proofs::ReadingLemmas::RecordFields::arrival_of_three, crate::proofs::ReadingLemmas::RecordFields::arrival_of_others))]
+#[tactic(auto, unfolding(crate::specs::Reading::Arrival::arrival_with_entry))]
 fn arrival_with_entry(fields: &ByteRecord) -> Result<Arrival, BatchCause>
     ensures value { result ≡ arrival_with_entry (fields_of fields.now) }
     ensures no_read { IfErr result (λ cause. cause ≢ BatchCause.Read) }
@@ -89,7 +89,7 @@ fn arrival_by_rule(epoch: &[u8], client: &[u8], entries: u32) -> Result<Arrival,
 }
 
 /// The arrival of a record whose entry follows by rule.
-#[tactic(auto, using(crate::proofs::ReadingLemmas::RecordFields::arrival_of_two, crate::proofs::ReadingLemmas::RecordFields::ruled_of_others))]
+#[tactic(auto, unfolding(crate::specs::Reading::Arrival::ruled_arrival))]
 fn ruled_arrival(fields: &ByteRecord, entries: u32) -> Result<Arrival, BatchCause>
     requires { 0 < entries }
     ensures value { result ≡ ruled_arrival entries (fields_of fields.now) }

@@ -1,5 +1,5 @@
-use Rattle.cn_texts.proofs.Common.{refl, arith, inl, fields_of}
-use Rattle.cn_texts.proofs.GrantLemmas.CheckedGrants.{form-back, form-full}
+use Rattle.cn_texts.proofs.Common.{refl, arith, inl, inr, fields_of}
+use Rattle.cn_texts.proofs.GrantLemmas.CheckedGrants.{form-back}
 use Rattle.cn_texts.proofs.grants.list.next_grant.Goals as goal
 use Rattle.cn_texts.proofs.grants.list.next_grant.Goals.{then-grant-latest-via-then-grant-latest, then-grant-latest-via-else-grant-latest+then-at-most}
 
@@ -22,8 +22,8 @@ returns-then-grant-latest-clause-refused g c = λ text before grants read last s
       rw c.if-not-branch.false at (c.in_ok-next_record.ensures.reads text before read),
       rw (← c.in-Some.ensures) (elim c.then-grant-latest.branch [
         | then-grant-latest-via-then-grant-latest w ↦
-            form-back c.args.most grants c.in-Some.grant (omega (arith, last, w.if-grant-latest.true))
+            form-back c.args.most grants c.in-Some.grant (inl (omega (arith, last, w.if-grant-latest.true)))
         | then-grant-latest-via-else-grant-latest+then-at-most w ↦
-            form-full c.args.most grants c.in-Some.grant (omega (arith, size, w.if-at-most.true))
+            form-back c.args.most grants c.in-Some.grant (inr (omega (arith, size, w.if-at-most.true)))
       ]),
     )

@@ -1,11 +1,10 @@
-use Rattle.cn_texts.proofs.Common.{◌≡◌, ◌+◌, ◌∷◌, ◌++◌, [], List, None, ap, length, arith, length-append, append-nil, append_assoc, inl, inr, subst, sym, ◌∙◌, HasRead, Record, records_of, err_from_is_err_and, form_cause, Granted}
-use Rattle.cn_texts.specs.Grants.TightList.{IsOfReading, header_cause, record_cause}
-use Rattle.cn_texts.proofs.GrantLemmas.CheckedGrants.{form-none, many-clients}
+use Rattle.cn_texts.proofs.Common.{◌≡◌, ◌+◌, ◌∷◌, ◌++◌, [], List, None, ap, length, arith, length-append, append-nil, append_assoc, inl, inr, subst, sym, ◌∙◌, HasRead, Record, records_of, IfOk-weaker, err_from_is_err_and, form_cause, Granted}
+use Rattle.cn_texts.proofs.GrantLemmas.CheckedGrants.{as-many, form-none}
 use Rattle.cn_texts.proofs.GrantLemmas.GrantRecords.{at-grants, first-flaw, follow-more, follow-none, form-first, taken-end, taken-fresh, taken-header, twice-flaw}
 use Rattle.cn_texts.proofs.ReadingLemmas.RecordLists.{read-first}
-use Rattle.cn_texts.proofs.ReadingLemmas.Results.{if_err-map, if_ok-map}
+use Rattle.std.proofs.lemmas.Result.{IfErr-weaker}
 use Rattle.cn_texts.proofs.ReadingLemmas.Told.{end-told, flaw-told, repeat-told}
-use Rattle.cn_texts.proofs.ReadingLemmas.FirstFaults.{stop_at, stop-before}
+use Rattle.cn_texts.proofs.ReadingLemmas.FirstFaults.{stop-in, stop-other}
 use Rattle.cn_texts.proofs.grants.list.take_grants.Goals as goal
 
 pub loop-at-init : goal.loop-at-init
@@ -15,16 +14,16 @@ loop-at-init g c = record {
   plain = c.in_default.ensures.plain;
   taken = λ text read.
       let (fields, now, e) = c.in_default.ensures.ok text read in
-      (fields ∷ [], [], [], [], now, taken-header c.args.most fields e, follow-none c.args.most [], c.new-granting.ensures.checked);
+      (fields ∷ [], [], [], [], now, taken-header fields e, follow-none c.args.most [], c.new-granting.ensures.checked);
 }
 
 pub returns-in_err-add-in-Ok-Some-clause-answer : goal.returns-in_err-add-in-Ok-Some-clause-answer
 returns-in_err-add-in-Ok-Some-clause-answer g c = λ text read.
     let (done, records, earlier, latest, now, t, follow, checked) = c.loop-at.invariant.taken text read in
-    let (more, is) = read-first g.R.Read.remaining c.loop-at.records text (done ++ records) now in
+    let (more, is) = read-first now in
     let reported = err_from_is_err_and c.from_residual.result c.from_residual.ensures.1 in
     rw (reported.1, reported.2) (elim (c.in_err-add-in-Ok-Some.ensures.twice earlier latest checked.holds) [
-      | inl twice ↦ twice-flaw c.args.most (records_of text) done earlier records latest more _ t follow is twice
+      | inl twice ↦ twice-flaw t follow (records_of text) more _ is twice
       | inr none ↦ rw none tt
     ])
 
@@ -40,20 +39,21 @@ returns-in-Ok-None-clause-answer g c = λ text read.
     taken-end (λ epochs. epochs.items) c.args.most (records_of text) done earlier records latest c.finish.result t follow
     (rw c.in-Ok-None.field-0-is at (c.in-Ok-None.ensures.found text (done ++ records) now))
     (c.finish.ensures.answer earlier latest checked.holds)
-    (if_ok-map c.finish.result c.finish.ensures.found (λ epochs found. found earlier latest checked.holds checked.tells))
+    (IfOk-weaker c.finish.result _ _
+    (λ epochs found. found earlier latest checked.holds checked.tells) c.finish.ensures.found)
 
 pub returns-in-Ok-None-clause-told : goal.returns-in-Ok-None-clause-told
 returns-in-Ok-None-clause-told g c =
-    if_err-map c.finish.result c.finish.ensures.own
-    (λ flaw own. end-told g.R.ReadTelling.failed c.next_grant.new.records flaw c.in-Ok-None.ensures.plain.going own)
+    IfErr-weaker c.finish.result _ _
+    (λ flaw own. end-told g.R.ReadTelling.failed c.next_grant.new.records flaw c.in-Ok-None.ensures.plain.going own) c.finish.ensures.own
 
 pub returns-in_err-settle-in-Err-next_grant-clause-answer : goal.returns-in_err-settle-in-Err-next_grant-clause-answer
 returns-in_err-settle-in-Err-next_grant-clause-answer g c = λ text read.
     let (done, records, earlier, latest, now, t, follow, checked) = c.loop-at.invariant.taken text read in
-    let (more, is) = read-first g.R.Read.remaining c.loop-at.records text (done ++ records) now in
+    let (more, is) = read-first now in
     let residual = c.from_residual-in_err-settle-in-Err-next_grant in
     let reported = err_from_is_err_and residual.result residual.ensures.1 in
-    rw (reported.1, reported.2) (twice-flaw c.args.most (records_of text) done earlier records latest more _ t follow is
+    rw (reported.1, reported.2) (twice-flaw t follow (records_of text) more _ is
     (c.in_err-settle-in-Err-next_grant.ensures.twice earlier latest checked.holds))
 
 pub returns-in_err-settle-in-Err-next_grant-clause-told : goal.returns-in_err-settle-in-Err-next_grant-clause-told
@@ -67,23 +67,20 @@ pub returns-in-Err-next_grant-clause-answer : goal.returns-in-Err-next_grant-cla
 returns-in-Err-next_grant-clause-answer g c = λ text read.
     let (done, records, earlier, latest, now, start, follow, checked) = c.loop-at.invariant.taken text read in
     let fresh = c.in_ok-settle-in-Err-next_grant.ensures.fresh earlier latest checked.holds in
-    let t = taken-fresh c.args.most done earlier records latest start follow fresh in
-    let many = many-clients c.loop-at.granting earlier latest checked.holds in
+    let t = taken-fresh start follow fresh in
+    let many = as-many (λ (x : Granted). x.client) latest c.loop-at.granting.clients.items checked.holds.clients in
     let grants : length (earlier ++ latest) + 1 ≡ c.loop-at.at =
     omega (arith, length-append earlier latest, many, checked.holds.before, c.loop-at.invariant.count) in
     let size : length (done ++ records) ≡ c.loop-at.at = sym t.counted ∙ grants in
     let last = checked.last ∙ sym c.latest.ensures in
     rw c.flaw_at-in-Err-next_grant.ensures (first-flaw c.args.most (records_of text) c.loop-at.at c.in-Err-next_grant.cause
-    (elim (c.in-Err-next_grant.ensures.refused text (done ++ records) (earlier ++ latest) now last grants) [
-      | inl w ↦
-          let (fields, next, e) = w in
-          rw (← size) (stop_at header_cause (record_cause c.args.most) IsOfReading g.R.Read.remaining c.next_grant.new.records text
-          (done ++ records) fields c.in-Err-next_grant.cause t.clean next
-          (at-grants c.args.most (done ++ records) (earlier ++ latest) fields t c.in-Err-next_grant.cause
-          (form-first c.args.most (earlier ++ latest) _ c.in-Err-next_grant.cause e)))
-      | inr w ↦ rw (← size) (stop-before header_cause (record_cause c.args.most) IsOfReading g.R.Read.remaining c.loop-at.records text
-          (done ++ records) c.in-Err-next_grant.cause t.clean now w)
-    ]))
+    (rw (← size) (elim (c.in-Err-next_grant.ensures.refused text (done ++ records)
+    (earlier ++ latest) now last grants) [
+      | inl (fields, next, e) ↦
+          stop-in t.clean fields (read-first next) (at-grants fields c.in-Err-next_grant.cause t
+          (form-first c.args.most (earlier ++ latest) _ c.in-Err-next_grant.cause e))
+      | inr w ↦ stop-other t.clean (read-first now) w
+    ])))
 
 pub returns-in-Err-next_grant-clause-told : goal.returns-in-Err-next_grant-clause-told
 returns-in-Err-next_grant-clause-told g c =
@@ -102,7 +99,7 @@ loop-at-preserved g c = record {
       let grant : Granted = c.in-Ok-Some.grant in
       let (fields, next, is) = rw c.in-Ok-Some.field-0-is at (c.in-Ok-Some.ensures.found text (done ++ records) now) in
       let (later, inside) = rw c.in-Ok-Some.field-0-is at c.in-Ok-Some.ensures.form in
-      let many = many-clients c.loop-at.granting earlier latest checked.holds in
+      let many = as-many (λ (x : Granted). x.client) latest c.loop-at.granting.clients.items checked.holds.clients in
       let form : form_cause c.args.most (earlier ++ latest) grant ≡ None =
       form-none c.args.most (earlier ++ latest) grant (omega (arith, checked.last, c.latest.ensures, later))
       (omega (
@@ -122,7 +119,7 @@ loop-at-preserved g c = record {
           subst (λ (l : List Record). HasRead g.R.Read.remaining c.next_grant.new.records text l) (append_assoc done records (fields ∷ []))
               next,
           t,
-          follow-more c.args.most earlier records latest fields grant follow is form,
+          follow-more earlier records latest fields grant follow is form,
           more,
         )
         | inr (fresh, more) ↦ (
@@ -131,8 +128,8 @@ loop-at-preserved g c = record {
           earlier ++ latest,
           grant ∷ [],
           next,
-          taken-fresh c.args.most done earlier records latest t follow fresh,
-          follow-more c.args.most (earlier ++ latest) [] [] fields grant (follow-none c.args.most (earlier ++ latest)) is
+          taken-fresh t follow fresh,
+          follow-more (earlier ++ latest) [] [] fields grant (follow-none c.args.most (earlier ++ latest)) is
               (ap (λ (l : List Granted). form_cause c.args.most l grant) (append-nil (earlier ++ latest)) ∙ form),
           more,
         )

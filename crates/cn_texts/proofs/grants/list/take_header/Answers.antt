@@ -1,7 +1,7 @@
 use Rattle.cn_texts.proofs.Common.{[], refl, fields_of}
-use Rattle.cn_texts.specs.Grants.TightList.{IsOfReading, header_cause, record_cause}
-use Rattle.cn_texts.specs.declared.grants.record.GrantCause.TheVariants.{Form}
-use Rattle.cn_texts.proofs.ReadingLemmas.FirstFaults.{no_header, nothing}
+use Rattle.cn_texts.specs.Grants.TightList.{header_cause, record_cause}
+use Rattle.cn_texts.proofs.ReadingLemmas.FirstFaults.{no_header}
+use Rattle.cn_texts.proofs.ReadingLemmas.RecordLists.{read-first}
 use Rattle.cn_texts.proofs.grants.list.take_header.Goals as goal
 use Rattle.cn_texts.proofs.grants.list.take_header.Goals.{else-branch-via-then-branch+else-is_header, else-branch-via-else-branch}
 
@@ -16,9 +16,9 @@ pub returns-else-branch-clause-err : goal.returns-else-branch-clause-err
 returns-else-branch-clause-err g c = λ most text read.
     elim c.else-branch.branch [
       | else-branch-via-then-branch+else-is_header w ↦
-          no_header header_cause (record_cause most) IsOfReading g.R.Read.remaining c.next_record.new.records text
-          (fields_of c.next_record.new.fields) Form (rw w.if-branch.true at (c.in_ok-next_record.ensures.reads text [] read))
-          (rw (← w.if-is_header.ensures) refl)
-      | else-branch-via-else-branch w ↦ nothing header_cause (record_cause most) IsOfReading _ Form refl
-          (rw w.if-branch.false at (c.in_ok-next_record.ensures.reads text [] read))
+          let (more, is) = read-first (rw w.if-branch.true at (c.in_ok-next_record.ensures.reads text [] read)) in
+          no_header header_cause (record_cause most) (rw is (rw (← w.if-is_header.ensures) refl))
+      | else-branch-via-else-branch w ↦
+          no_header header_cause (record_cause most)
+          (rw (rw w.if-branch.false at (c.in_ok-next_record.ensures.reads text [] read)) refl)
     ]

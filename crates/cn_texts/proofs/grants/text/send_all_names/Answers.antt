@@ -1,6 +1,6 @@
-use Rattle.cn_texts.proofs.Common.{◌≡◌, ◌+◌, ◌++◌, ◌∙◌, ℕ, Bool, List, [], ap, append_assoc, append-nil, arith, drop, length, refl, subst, sym, take, sum_by-drop_more, when, BatchEpoch, EpochRecord, grant_lines, AreRecordsOf}
+use Rattle.cn_texts.proofs.Common.{◌≡◌, ◌+◌, ◌++◌, ◌∙◌, ℕ, Bool, List, [], ap, append_assoc, append-nil, arith, drop, length, refl, subst, sym, take, when, BatchEpoch, EpochRecord, grant_lines, AreRecordsOf}
 use Rattle.cn_texts.proofs.WritingLemmas.Putting.{put-none, put-same, put-then}
-use Rattle.cn_texts.proofs.WritingLemmas.RecordLines.{FirstRecord, first-record, last-record}
+use Rattle.cn_texts.proofs.WritingLemmas.RecordLines.{FirstRecord, first-clients, first-record, last-record}
 use Rattle.cn_texts.proofs.grants.text.send_all_names.Invariants.{lines}
 use Rattle.cn_texts.proofs.grants.text.send_all_names.Goals as goal
 
@@ -16,14 +16,8 @@ record-lines carry w m e epochs records holders own front many f =
 pub split_at-requires : goal.split_at-requires
 split_at-requires g c =
     let e = c.epoch-item.result in
-    omega (
-      arith,
-      c.len.ensures,
-      e.clients.ok.0,
-      c.loop-epoch.invariant.as_many,
-      ap (λ (x : BatchEpoch). length x.clients.items) c.epoch-item.is,
-      sum_by-drop_more (λ (x : BatchEpoch). length x.clients.items) c.args.epochs.now c.loop-epoch.epoch-index e c.loop-epoch-test.true,
-    )
+    let all = first-clients c.args.epochs.now c.loop-epoch.epoch-index e c.loop-epoch-test.true c.epoch-item.is in
+    omega (arith, c.len.ensures, e.clients.ok.0, c.loop-epoch.invariant.as_many, all)
 
 pub loop-epoch-init : goal.loop-epoch-init
 loop-epoch-init g c = record { as_many = c.requires; put = λ carry width records are. (0, records, are, [], refl, put-none) }
@@ -33,29 +27,25 @@ loop-epoch-preserved g c =
     let e = c.epoch-item.result in
     let count : c.len.result ≡ length e.clients.items = omega (arith, c.len.ensures, e.clients.ok.0) in
     let front = c.split_at.ensures.front ∙ ap (λ n. take n c.loop-epoch.left.now) count in
+    let all = first-clients c.args.epochs.now c.loop-epoch.epoch-index e c.loop-epoch-test.true c.epoch-item.is in
     let back = c.split_at.ensures.back ∙ ap (λ n. drop n c.loop-epoch.left.now) count in
     record {
-      as_many = omega (
-        arith,
-        count,
-        c.split_at.ensures.back_len,
-        c.loop-epoch.invariant.as_many,
-        ap (λ (x : BatchEpoch). length x.clients.items) c.epoch-item.is,
-        sum_by-drop_more (λ (x : BatchEpoch). length x.clients.items) c.args.epochs.now c.loop-epoch.epoch-index e c.loop-epoch-test.true,
-      );
+      as_many = omega (arith, count, c.split_at.ensures.back_len, c.loop-epoch.invariant.as_many, all);
       put = λ carry width records are.
           let (m, later, rest, sofar, whole, puts) = c.loop-epoch.invariant.put carry width records are in
           let f = first-record (λ r. grant_lines r.number r.clients r.holders.items) carry width m c.args.epochs.now
           c.loop-epoch.epoch-index e later c.loop-epoch.left.now c.loop-epoch-test.true c.epoch-item.is rest in
-          let parts = record-lines carry width m e _ later c.loop-epoch.left.now c.split_at.result.0.now front
-          (c.split_at.ensures.front_len ∙ count) f in (
+          let many = c.split_at.ensures.front_len ∙ count in
+          let mine : List ℕ = grant_lines e.number (length c.split_at.result.0.now) c.split_at.result.0.now in
+          let own : grant_lines f.first.number f.first.clients f.first.holders.items ≡ mine =
+          rw (f.mine.number, f.mine.clients, f.mine.holders, many, front) refl in (
             when carry (m + length e.clients.items),
             f.later,
             subst (λ (t : List ℕ). AreRecordsOf carry width (when carry (m + length e.clients.items))
                 (drop (c.loop-epoch.epoch-index + 1) c.args.epochs.now) f.later t) (sym back) f.rest,
-            sofar ++ grant_lines e.number (length c.split_at.result.0.now) c.split_at.result.0.now,
-            whole ∙ ap (λ (t : List ℕ). sofar ++ t) parts
-                ∙ sym (append_assoc sofar (grant_lines e.number (length c.split_at.result.0.now) c.split_at.result.0.now) (lines f.later)),
+            sofar ++ mine,
+            whole ∙ ap (λ (t : List ℕ). sofar ++ t) (f.parts ∙ ap (λ (t : List ℕ). t ++ lines f.later) own)
+                ∙ sym (append_assoc sofar mine (lines f.later)),
             put-then puts c.send_names.ensures,
           );
     }

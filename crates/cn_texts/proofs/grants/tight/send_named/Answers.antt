@@ -1,6 +1,6 @@
 use Rattle.cn_texts.proofs.Common.{◌∙◌, shares, sym}
 use Rattle.cn_texts.proofs.WritingLemmas.Putting.{put-failed, put-same, put-then}
-use Rattle.cn_texts.proofs.GrantLemmas.TightLines.{line-whole}
+use Rattle.cn_texts.proofs.WritingLemmas.RecordLines.{line-whole}
 use Rattle.cn_texts.proofs.grants.tight.send_named.Goals as goal
 
 pub returns-clause-puts : goal.returns-clause-puts

@@ -1,6 +1,6 @@
 use Rattle.cn_texts.proofs.Common.{length, map, refl, with_shares, tight_text}
 use Rattle.cn_texts.proofs.WritingLemmas.Putting.{put-all, put-same, put-then}
-use Rattle.cn_texts.proofs.GrantLemmas.TightLines.{end-same}
+use Rattle.cn_texts.proofs.WritingLemmas.RecordLines.{end-same}
 use Rattle.cn_texts.proofs.grants.tight.write_tight.Goals as goal
 
 pub returns : goal.returns

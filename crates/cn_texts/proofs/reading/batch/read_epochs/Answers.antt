@@ -1,5 +1,5 @@
 use Rattle.cn_texts.proofs.Common.{arith, refl, IfOk-weaker, err_from_is_err_and}
-use Rattle.cn_texts.proofs.ReadingLemmas.Ahead.{after-header, at-end, goes-on, next-ahead, next-fault, same-header, stretch-fault}
+use Rattle.cn_texts.proofs.ReadingLemmas.Ahead.{after-header, at-end, goes-on, next-fault, same-header, stretch-fault}
 use Rattle.cn_texts.proofs.ReadingLemmas.Told.{read-stops}
 use Rattle.cn_texts.proofs.reading.batch.read_epochs.Goals as goal
 
@@ -9,9 +9,7 @@ loop-stretch-init g c =
       plain = c.requires.open.plain;
       same = record { heading = refl {a = source.heading}; bounds = refl {a = source.bounds} };
       keeps = c.requires.keeps;
-      taken = λ text header.
-          after-header g.I.Read.remaining source.heading source.bounds text source.records.value c.args.gathering header.fields header.read
-          header.heads c.requires.none;
+      taken = λ text header. after-header header c.requires.none;
     }
 
 pub read_stretch-end-requires-clause-open : goal.read_stretch-end-requires-clause-open
@@ -24,18 +22,11 @@ gather-requires g c = rw c.bounds-bounds.ensures c.loop-stretch.invariant.keeps
 
 pub returns-in_err-gather-clause-answer : goal.returns-in_err-gather-clause-answer
 returns-in_err-gather-clause-answer g c =
-    let source = c.args.source.now in
-    let now = c.loop-stretch in
-    let was = now.invariant in
-    let read = c.read_stretch-end in
+    let was = c.loop-stretch.invariant in
     let reported = err_from_is_err_and c.from_residual.result c.from_residual.ensures.1 in
     let gathers = rw (c.deref.ensures.value, c.bounds-bounds.ensures) at c.in_err-gather.ensures in
     rw (reported.1, reported.2) (λ text header.
-    stretch-fault g.I.Read.remaining source.heading source.bounds text read.new.self.records.value now.gathering
-    c.gather.new.self read.new.arrivals.items read.result
-    (next-ahead g.I.Read.remaining source.heading source.bounds text now.source read.new.self was.same.heading was.same.bounds now.gathering
-    read.new.arrivals.items read.result (was.taken text header) read.ensures.reads)
-    c.in_err-gather.field-0.0 gathers)
+    stretch-fault was.same (was.taken text header) c.read_stretch-end.ensures.reads c.in_err-gather.field-0.0 gathers)
 
 pub returns-in_err-gather-clause-told : goal.returns-in_err-gather-clause-told
 returns-in_err-gather-clause-told g c =
@@ -44,35 +35,22 @@ returns-in_err-gather-clause-told g c =
 
 pub returns-in-Err-clause-answer : goal.returns-in-Err-clause-answer
 returns-in-Err-clause-answer g c = λ text header.
-    let source = c.args.source.now in
-    let now = c.loop-stretch in
-    let was = now.invariant in
-    let read = c.read_stretch-end in
+    let was = c.loop-stretch.invariant in
     let gathers = rw (c.deref.ensures.value, c.bounds-bounds.ensures) at c.in_ok-gather.ensures in
     rw c.next-at.ensures
-    (next-fault g.I.Read.remaining source.heading source.bounds text read.new.self.records.value now.gathering c.gather.new.self
-    read.new.arrivals.items read.result
-    (next-ahead g.I.Read.remaining source.heading source.bounds text now.source read.new.self was.same.heading was.same.bounds now.gathering
-    read.new.arrivals.items read.result (was.taken text header) read.ensures.reads)
-    gathers c.in-Err.cause c.in-Err.is)
+    (next-fault was.same (was.taken text header) c.read_stretch-end.ensures.reads gathers c.in-Err.cause c.in-Err.is)
 
 pub returns-in-Err-clause-told : goal.returns-in-Err-clause-told
 returns-in-Err-clause-told g c = read-stops c.in-Err.cause (rw c.in-Err.is at c.read_stretch-end.ensures.told)
 
 pub returns-then-not-others-clause-answer : goal.returns-then-not-others-clause-answer
 returns-then-not-others-clause-answer g c = λ text header.
-    let source = c.args.source.now in
-    let now = c.loop-stretch in
-    let was = now.invariant in
-    let read = c.read_stretch-end in
+    let was = c.loop-stretch.invariant in
     let gathers = rw (c.deref.ensures.value, c.bounds-bounds.ensures) at c.in_ok-gather.ensures in
-    let (all, taken, gathered) =
-    at-end g.I.Read.remaining source.heading source.bounds text read.new.self.records.value now.gathering c.gather.new.self
-    read.new.arrivals.items read.result
-    (next-ahead g.I.Read.remaining source.heading source.bounds text now.source read.new.self was.same.heading was.same.bounds now.gathering
-    read.new.arrivals.items read.result (was.taken text header) read.ensures.reads)
-    gathers (rw c.if-not-others.true at c.in-Ok.is) in
-    rw all (c.finish.ensures.answer source.heading source.bounds _ _ taken gathered)
+    let (came, taken, gathered) =
+    at-end was.same (was.taken text header) c.read_stretch-end.ensures.reads gathers
+    (rw c.if-not-others.true at c.in-Ok.is) in
+    c.finish.ensures.answer c.args.source.now.heading c.args.source.now.bounds _ _ taken gathered
 
 pub returns-then-not-others-clause-fits : goal.returns-then-not-others-clause-fits
 returns-then-not-others-clause-fits g c =
@@ -92,20 +70,13 @@ loop-stretch-smaller g c =
 
 pub loop-stretch-preserved : goal.loop-stretch-preserved
 loop-stretch-preserved g c =
-    let source = c.args.source.now in
-    let now = c.loop-stretch in
-    let was = now.invariant in
-    let read = c.read_stretch-end in
+    let was = c.loop-stretch.invariant in
+    let read = c.read_stretch-end.ensures.reads in
     let goes = rw c.if-not-others.false at c.in-Ok.is in
     let gathers = rw (c.deref.ensures.value, c.bounds-bounds.ensures) at c.in_ok-gather.ensures in
     record {
-      plain = rw goes at read.ensures.reads.plain;
-      same = same-header _ _ _ was.same read.ensures.reads.same;
+      plain = rw goes at read.plain;
+      same = same-header was.same read.same;
       keeps = gathers.keeps;
-      taken = λ text header.
-          goes-on g.I.Read.remaining source.heading source.bounds text read.new.self.records.value now.gathering c.gather.new.self
-          read.new.arrivals.items read.result
-          (next-ahead g.I.Read.remaining source.heading source.bounds text now.source read.new.self was.same.heading was.same.bounds
-          now.gathering read.new.arrivals.items read.result (was.taken text header) read.ensures.reads)
-          gathers goes;
+      taken = λ text header. goes-on was.same (was.taken text header) read gathers goes;
     }

@@ -1,6 +1,7 @@
 use Rattle.cn_texts.proofs.Common.{◌∙◌, get_or, sym, arith, is_ascii_digit, list_all_more}
+use Rattle.std.proofs.lemmas.Bool.{and_parts}
 use Rattle.std.proofs.lemmas.Int.Digits.{digits_value_more}
-use Rattle.cn_texts.proofs.ReadingLemmas.Digits.{both-are, sum-fits, sum-more, worth-of}
+use Rattle.cn_texts.proofs.ReadingLemmas.Digits.{sum-fits, sum-more, worth-of}
 use Rattle.cn_texts.proofs.reading.number.value_of_few.Goals as goal
 
 pub overflow_mul-value : goal.overflow_mul-value
@@ -26,7 +27,7 @@ loop-digit-preserved c =
     let byte = get_or ds i 0 in
     let is = c.is_ascii_digit-are_digits.ensures.value in (
       rw (c.loop-digit.invariant.0, is) (sym (list_all_more is_ascii_digit ds i 0 c.loop-digit-test.true)),
-      (λ are. let two = both-are c.loop-digit.are_digits c.is_ascii_digit-are_digits.result are in
+      (λ are. let two = and_parts c.loop-digit.are_digits c.is_ascii_digit-are_digits.result are in
           omega (arith, worth-of byte (sym is ∙ two.1), digits_value_more 10 ds i c.loop-digit-test.true, c.loop-digit.invariant.1 two.0)),
       omega (arith, sum-more i c.loop-digit.value byte c.loop-digit.invariant.2),
     )

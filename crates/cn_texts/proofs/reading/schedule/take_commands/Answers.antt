@@ -1,7 +1,7 @@
-use Rattle.cn_texts.proofs.Common.{◌≡◌, ◌∷◌, ◌++◌, [], refl, arith, length-append, inl, inr, rules, true, records_of, is_ok, cause_of_fault}
+use Rattle.cn_texts.proofs.Common.{◌≡◌, ◌∷◌, ◌++◌, [], refl, arith, length-append, inl, inr, rules, true, is_ok, cause_of_fault}
 use Rattle.cn_texts.specs.declared.reading.schedule_fault.ScheduleCause.TheVariants.{Memory}
-use Rattle.cn_texts.specs.Reading.Schedule.{IsOfReading, header_cause, record_cause}
-use Rattle.cn_texts.proofs.ReadingLemmas.FirstFaults.{stop_at, stop-before}
+use Rattle.cn_texts.proofs.ReadingLemmas.FirstFaults.{stop-in, stop-other}
+use Rattle.cn_texts.proofs.ReadingLemmas.RecordLists.{read-first}
 use Rattle.cn_texts.proofs.ReadingLemmas.Told.{told-other}
 use Rattle.cn_texts.proofs.ReadingLemmas.ScheduleRecords.{taken_all, taken-header, taken-next}
 use Rattle.cn_texts.proofs.reading.schedule.take_commands.Goals as goal
@@ -19,25 +19,20 @@ loop-at-init g c = record {
 pub returns-in-Err-take_command-clause-answer : goal.returns-in-Err-take_command-clause-answer
 returns-in-Err-take_command-clause-answer g c = λ text read.
     let (before, now, size, t) = c.loop-at.invariant.taken text read in
-    elim (c.in-Err-take_command.ensures.refused text before now) [
-      | inl w ↦
-          let (fields, next, e) = w in
-          rw (← size) (stop_at header_cause record_cause IsOfReading g.R.Read.remaining c.take_command.new.records text before fields
-          c.in-Err-take_command.cause t.clean next (rw (← size) at e))
-      | inr w ↦ rw (← size) (stop-before header_cause record_cause IsOfReading g.R.Read.remaining c.loop-at.records text before
-          c.in-Err-take_command.cause t.clean now w)
-    ]
+    rw (← size) (elim (c.in-Err-take_command.ensures.refused text before now) [
+      | inl (fields, next, e) ↦ stop-in t.clean fields (read-first next) (rw (← size) at e)
+      | inr w ↦ stop-other t.clean (read-first now) w
+    ])
 
 pub returns-in_default-taken-clause-answer : goal.returns-in_default-taken-clause-answer
 returns-in_default-taken-clause-answer g c = λ text read.
     let (before, now, size, t) = c.loop-at.invariant.taken text read in
-    taken_all (records_of text) before c.loop-at.commands.items t (rw c.in_default-taken.is at (c.in-Ok.ensures.found text before now))
+    taken_all t (rw c.in_default-taken.is at (c.in-Ok.ensures.found text before now))
 
 pub returns-then-is_err-clause-answer : goal.returns-then-is_err-clause-answer
 returns-then-is_err-clause-answer g c = λ text read.
     let (before, now, size, t) = c.loop-at.invariant.taken text read in
-    rw (← size) (stop-before header_cause record_cause IsOfReading g.R.Read.remaining c.loop-at.records text before Memory t.clean now
-    (inr refl))
+    rw (← size) (stop-other t.clean (read-first now) (inr refl))
 
 pub returns-then-is_err-clause-told : goal.returns-then-is_err-clause-told
 returns-then-is_err-clause-told g c = told-other cause_of_fault Memory c.in-Ok.ensures.plain.going (λ is. cc is)

@@ -1,7 +1,7 @@
 use Rattle.cn_texts.proofs.Common.{[], refl, fields_of}
-use Rattle.cn_texts.specs.Reading.Schedule.{IsOfReading, header_cause, record_cause}
-use Rattle.cn_texts.specs.declared.reading.schedule_fault.ScheduleCause.TheVariants.{Header}
-use Rattle.cn_texts.proofs.ReadingLemmas.FirstFaults.{no_header, nothing}
+use Rattle.cn_texts.specs.Reading.Schedule.{header_cause, record_cause}
+use Rattle.cn_texts.proofs.ReadingLemmas.FirstFaults.{no_header}
+use Rattle.cn_texts.proofs.ReadingLemmas.RecordLists.{read-first}
 use Rattle.cn_texts.proofs.reading.schedule.take_header.Goals as goal
 use Rattle.cn_texts.proofs.reading.schedule.take_header.Goals.{else-branch-via-then-branch+else-is_header, else-branch-via-else-branch}
 
@@ -16,9 +16,9 @@ pub returns-else-branch-clause-err : goal.returns-else-branch-clause-err
 returns-else-branch-clause-err g c = λ text read.
     elim c.else-branch.branch [
       | else-branch-via-then-branch+else-is_header w ↦
-          no_header header_cause record_cause IsOfReading g.R.Read.remaining c.next_record.new.records text
-          (fields_of c.next_record.new.fields) Header (rw w.if-branch.true at (c.in_ok-next_record.ensures.reads text [] read))
-          (rw (← w.if-is_header.ensures) refl)
-      | else-branch-via-else-branch w ↦ nothing header_cause record_cause IsOfReading _ Header refl
-          (rw w.if-branch.false at (c.in_ok-next_record.ensures.reads text [] read))
+          let (more, is) = read-first (rw w.if-branch.true at (c.in_ok-next_record.ensures.reads text [] read)) in
+          no_header header_cause record_cause (rw is (rw (← w.if-is_header.ensures) refl))
+      | else-branch-via-else-branch w ↦
+          no_header header_cause record_cause (rw (rw w.if-branch.false at
+          (c.in_ok-next_record.ensures.reads text [] read)) refl)
     ]

@@ -1,5 +1,5 @@
 use Rattle.cn_texts.proofs.Common.{◌≤◌, ◌-◌, length, drop, arith, length-take}
-use Rattle.cn_texts.proofs.WritingLemmas.Appending.{front_more}
+use Rattle.cn_texts.proofs.WritingLemmas.Putting.{front_more}
 use Rattle.cn_texts.proofs.writing.emitting.write_whole.Goals as goal
 
 pub loop-written-preserved : goal.loop-written-preserved

@@ -1,30 +1,13 @@
-use Rattle.cn_texts.proofs.Common.{◌≡◌, ◌+◌, ◌++◌, ◌∙◌, ℕ, Bool, List, [], ap, append_assoc, append-nil, arith, drop, length, refl, subst, sym, take, flat_map, sum_by-drop_more, shares_after, when, BatchEpoch, EpochRecord, exit_lines, name_lines, AreRecordsOf, epoch_line, epoch_lines}
+use Rattle.cn_texts.proofs.Common.{◌≡◌, ◌+◌, ◌++◌, ◌∙◌, ℕ, List, [], ap, append_assoc, append-nil, arith, drop, length, refl, subst, sym, take, flat_map, shares_after, when, exit_lines, name_lines, AreRecordsOf, epoch_line, epoch_lines}
 use Rattle.cn_texts.proofs.WritingLemmas.Putting.{put-none, put-same, put-then}
-use Rattle.cn_texts.proofs.WritingLemmas.RecordLines.{FirstRecord, first-record, last-record, when-le}
+use Rattle.cn_texts.proofs.WritingLemmas.RecordLines.{first-clients, first-record, last-record, when-le}
 use Rattle.cn_texts.proofs.writing.report.send_epochs.Goals as goal
-
--- a record, by what is put of it
-record-lines : (carry : Bool) (w m : ℕ) (e : BatchEpoch) (epochs : List BatchEpoch) (records : List EpochRecord) (holders own : List ℕ)
-    → own ≡ take (length e.clients.items) holders
-    → length own ≡ length e.clients.items → (f : FirstRecord (epoch_lines w) carry w m e epochs records holders)
-    → flat_map (epoch_lines w) records
-    ≡ (epoch_line e.number (length own) ++ (exit_lines w (shares_after m (length own) w) ++ name_lines (length own) own))
-    ++ flat_map (epoch_lines w) f.later
-record-lines carry w m e epochs records holders own front many f =
-    f.parts ∙ ap (λ (t : List ℕ). t ++ flat_map (epoch_lines w) f.later)
-    (rw (f.mine.counts, f.mine.number, f.mine.clients, f.mine.holders, many, front) refl)
 
 pub split_at-requires : goal.split_at-requires
 split_at-requires g c =
     let e = c.epoch-item.result in
-    omega (
-      arith,
-      c.len.ensures,
-      e.clients.ok.0,
-      c.loop-epoch.invariant.as_many,
-      ap (λ (x : BatchEpoch). length x.clients.items) c.epoch-item.is,
-      sum_by-drop_more (λ (x : BatchEpoch). length x.clients.items) c.args.epochs.now c.loop-epoch.epoch-index e c.loop-epoch-test.true,
-    )
+    let all = first-clients c.args.epochs.now c.loop-epoch.epoch-index e c.loop-epoch-test.true c.epoch-item.is in
+    omega (arith, c.len.ensures, e.clients.ok.0, c.loop-epoch.invariant.as_many, all)
 
 pub loop-epoch-init : goal.loop-epoch-init
 loop-epoch-init g c =
@@ -41,19 +24,13 @@ loop-epoch-preserved g c =
     let m = c.loop-epoch.before in
     let count : c.len.result ≡ length e.clients.items = omega (arith, c.len.ensures, e.clients.ok.0) in
     let front = c.split_at.ensures.front ∙ ap (λ n. take n c.loop-epoch.left.now) count in
+    let all = first-clients c.args.epochs.now c.loop-epoch.epoch-index e c.loop-epoch-test.true c.epoch-item.is in
     let back = c.split_at.ensures.back ∙ ap (λ n. drop n c.loop-epoch.left.now) count in
     let many = c.split_at.ensures.front_len ∙ count in
     let next : c.carried-before.result ≡ when c.args.carries (m + length e.clients.items) =
     c.carried-before.ensures ∙ ap (λ n. when c.args.carries (m + n)) many in
     record {
-      as_many = omega (
-        arith,
-        count,
-        c.split_at.ensures.back_len,
-        c.loop-epoch.invariant.as_many,
-        ap (λ (x : BatchEpoch). length x.clients.items) c.epoch-item.is,
-        sum_by-drop_more (λ (x : BatchEpoch). length x.clients.items) c.args.epochs.now c.loop-epoch.epoch-index e c.loop-epoch-test.true,
-      );
+      as_many = omega (arith, count, c.split_at.ensures.back_len, c.loop-epoch.invariant.as_many, all);
       few = omega (
         arith,
         count,
@@ -68,14 +45,17 @@ loop-epoch-preserved g c =
           let own : List ℕ = epoch_line e.number n ++ (exit_lines w (shares_after m n w) ++ name_lines n c.split_at.result.0.now) in
           let f = first-record (epoch_lines w) c.args.carries w m c.args.epochs.now c.loop-epoch.epoch-index e later c.loop-epoch.left.now
           c.loop-epoch-test.true c.epoch-item.is rest in
-          let parts = record-lines c.args.carries w m e _ later c.loop-epoch.left.now c.split_at.result.0.now front many f in
+          let same : epoch_lines w f.first ≡ own =
+          rw (f.mine.counts, f.mine.number, f.mine.clients, f.mine.holders, many, front) refl in
           let epochs = drop (c.loop-epoch.epoch-index + 1) c.args.epochs.now in
           let after = subst (λ (t : List ℕ). AreRecordsOf c.args.carries w (when c.args.carries (m + length e.clients.items)) epochs f.later
           t) (sym back) f.rest in (
             f.later,
             subst (λ n. AreRecordsOf c.args.carries w n epochs f.later c.split_at.result.1.now) (sym next) after,
             sofar ++ own,
-            whole ∙ ap (λ (t : List ℕ). sofar ++ t) parts ∙ sym (append_assoc sofar own (flat_map (epoch_lines w) f.later)),
+            whole ∙ ap (λ (t : List ℕ). sofar ++ t)
+                (f.parts ∙ ap (λ (t : List ℕ). t ++ flat_map (epoch_lines w) f.later) same)
+                ∙ sym (append_assoc sofar own (flat_map (epoch_lines w) f.later)),
             put-then puts c.send_epoch.ensures.puts,
           );
     }

@@ -10,11 +10,11 @@ returns-in_err-end_latest-clause-answer c = λ earlier latest held.
 pub returns-in-None-clause-answer : goal.returns-in-None-clause-answer
 returns-in-None-clause-answer c = λ earlier latest held. (
   c.in_ok-end_latest.ensures.fresh earlier latest held,
-  no_gap c.args.self earlier latest held (rw c.in-None.is at (c.in_ok-end_latest.ensures.gap earlier latest held)),
+  no_gap held (rw c.in-None.is at (c.in_ok-end_latest.ensures.gap earlier latest held)),
 )
 
 pub returns-in-None-clause-found : goal.returns-in-None-clause-found
 returns-in-None-clause-found c = λ earlier latest held tells.
     let (before, ended) = c.in_ok-end_latest.ensures.ended c.in-None.is in
     seen-end _ (c.args.self.latest + 1) (earlier ++ latest)
-    (seen-latest c.args.self earlier latest _ (c.args.self.latest + 1) held tells before (omega arith) ended)
+    (seen-latest _ (c.args.self.latest + 1) held tells before (omega arith) ended)

@@ -1,5 +1,6 @@
 use Rattle.cn_texts.proofs.Common.{◌∙◌, ◌≡◌, ℕ, List, None, Some, ap, arith, length, map, with_items_is, length_permutation, has_number, numbers_of, Occurrence, Granted}
-use Rattle.cn_texts.proofs.GrantLemmas.CheckedGrants.{all-fresh, client-twice, name-twice, named}
+use Rattle.cn_texts.proofs.GrantLemmas.CheckedGrants.{all-fresh, client-twice, name-twice}
+use Rattle.cn_texts.proofs.Each.{any-map}
 use Rattle.cn_texts.proofs.GrantLemmas.Repeats.{numbers-occurrences, same-numbers}
 use Rattle.cn_texts.proofs.grants.epochs.Granting.settle.Goals as goal
 
@@ -19,7 +20,8 @@ returns-in-None-None-clause-names c = λ earlier latest held.
       c.first_repeat-name.ensures.rising names old c.in-None-None.is-1,
       λ n. same-numbers c.as_mut_slice-2.result.now c.first_repeat-name.new.occurrences c.first_repeat-name.ensures.order n
           ∙ ap (λ (l : List Occurrence). has_number (numbers_of l) n) old
-          ∙ ap (λ (l : List ℕ). has_number l n) (numbers-occurrences 0 names) ∙ named latest n,
+          ∙ ap (λ (l : List ℕ). has_number l n) (numbers-occurrences 0 names)
+          ∙ any-map (λ (x : Granted). x.name) n latest,
     )
 
 pub returns-in-None-Some-clause-twice : goal.returns-in-None-Some-clause-twice

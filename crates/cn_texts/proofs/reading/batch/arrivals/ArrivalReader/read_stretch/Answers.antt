@@ -1,6 +1,6 @@
-use Rattle.cn_texts.proofs.Common.{◌≡◌, ◌∷◌, ◌++◌, [], append-nil, append_assoc, arith, false, inr, length-append, refl, rules, true, Err, Ok, is_ok, err_from_is_err_and, Memory, batch_cause_of_fault}
+use Rattle.cn_texts.proofs.Common.{◌≡◌, ◌∷◌, ◌++◌, [], append-nil, append_assoc, arith, false, inr, length-append, refl, rules, true, Ok, is_ok, err_from_is_err_and, Memory, batch_cause_of_fault}
 use Rattle.cn_texts.proofs.ReadingLemmas.Ahead.{same-header, stretch-read}
-use Rattle.cn_texts.proofs.ReadingLemmas.Stretches.{spelled-more}
+use Rattle.cn_texts.proofs.ReadingLemmas.RecordLists.{spelled-more}
 use Rattle.cn_texts.proofs.ReadingLemmas.Told.{told-other}
 use Rattle.cn_texts.proofs.reading.batch.arrivals.ArrivalReader.read_stretch.Goals as goal
 
@@ -19,14 +19,14 @@ loop-taken-preserved g c =
     let xs = c.loop-taken.arrivals.items in
     record {
       plain = c.in_ok-arrival.ensures.plain;
-      same = same-header _ _ _ c.loop-taken.invariant.same c.next_arrival.ensures.same;
+      same = same-header c.loop-taken.invariant.same c.next_arrival.ensures.same;
       many = rw items (omega (arith, length-append xs (c.in-Some.arrival ∷ []), c.loop-taken.invariant.many));
       reads = λ text before read.
           let (records, spelled, now) = c.loop-taken.invariant.reads text before read in
           let (fields, next, is) = rw (c.in-Some.is, c.loop-taken.invariant.same.heading, c.loop-taken.invariant.same.bounds) at
           (c.in_ok-arrival.ensures.next text (before ++ records) now) in (
             records ++ fields ∷ [],
-            rw items (spelled-more c.args.self.now.heading c.args.self.now.bounds records xs fields c.in-Some.arrival spelled is),
+            rw items (spelled-more _ Ok records xs spelled fields c.in-Some.arrival is),
             rw (append_assoc before records (fields ∷ [])) at next,
           );
     }
@@ -36,24 +36,22 @@ returns-in_err-arrival-clause-reads g c =
     let reported = err_from_is_err_and c.from_residual.result c.from_residual.ensures.1 in
     rw (reported.1, reported.2) (record {
       plain = tt;
-      same = same-header _ _ _ c.loop-taken.invariant.same c.next_arrival.ensures.same;
+      same = same-header c.loop-taken.invariant.same c.next_arrival.ensures.same;
       reads = λ text before read.
           let (records, spelled, now) = c.loop-taken.invariant.reads text before read in
-          stretch-read g.R.Read.remaining c.loop-taken.self.records.value c.next_arrival.new.self.records.value c.args.self.now.heading
-          c.args.self.now.bounds text before records c.loop-taken.arrivals.items _ spelled now
-          (rw (c.loop-taken.invariant.same.heading, c.loop-taken.invariant.same.bounds) at
+          let was = c.loop-taken.invariant.same in
+          stretch-read records spelled now (rw (was.heading, was.bounds) at
           (c.in_err-arrival.ensures.refused text (before ++ records) now));
     })
 
 pub returns-in_default-clause-reads : goal.returns-in_default-clause-reads
 returns-in_default-clause-reads g c = record {
   plain = c.in_ok-arrival.ensures.plain;
-  same = same-header _ _ _ c.loop-taken.invariant.same c.next_arrival.ensures.same;
+  same = same-header c.loop-taken.invariant.same c.next_arrival.ensures.same;
   reads = λ text before read.
       let (records, spelled, now) = c.loop-taken.invariant.reads text before read in
-      stretch-read g.R.Read.remaining c.loop-taken.self.records.value c.next_arrival.new.self.records.value c.args.self.now.heading
-      c.args.self.now.bounds text before records c.loop-taken.arrivals.items (Ok false) spelled now
-      (rw c.in_default.is at (c.in_ok-arrival.ensures.next text (before ++ records) now));
+      stretch-read records spelled now (rw c.in_default.is at
+      (c.in_ok-arrival.ensures.next text (before ++ records) now));
 }
 
 pub returns-then-is_err-clause-reads : goal.returns-then-is_err-clause-reads
@@ -62,11 +60,10 @@ returns-then-is_err-clause-reads g c =
     let items = rw bad at c.push.ensures.items in
     record {
       plain = tt;
-      same = same-header _ _ _ c.loop-taken.invariant.same c.next_arrival.ensures.same;
+      same = same-header c.loop-taken.invariant.same c.next_arrival.ensures.same;
       reads = λ text before read.
           let (records, spelled, now) = c.loop-taken.invariant.reads text before read in
-          stretch-read g.R.Read.remaining c.loop-taken.self.records.value c.next_arrival.new.self.records.value c.args.self.now.heading
-          c.args.self.now.bounds text before records c.push.new.self.items (Err Memory) (rw items spelled) now (inr (inr refl));
+          stretch-read records (rw items spelled) now (inr (inr refl));
     }
 
 pub returns-then-is_err-clause-told : goal.returns-then-is_err-clause-told
@@ -78,16 +75,15 @@ returns-then-not-is_next_there-clause-reads g c =
     let items = rw good at c.push.ensures.items in
     record {
       plain = c.in_ok-arrival.ensures.plain;
-      same = same-header _ _ _ c.loop-taken.invariant.same c.next_arrival.ensures.same;
+      same = same-header c.loop-taken.invariant.same c.next_arrival.ensures.same;
       reads = λ text before read.
           let (records, spelled, now) = c.loop-taken.invariant.reads text before read in
           let (fields, next, is) = rw (c.in-Some.is, c.loop-taken.invariant.same.heading, c.loop-taken.invariant.same.bounds) at
           (c.in_ok-arrival.ensures.next text (before ++ records) now) in
           let more = rw (append_assoc before records (fields ∷ [])) at next in
-          stretch-read g.R.Read.remaining c.next_arrival.new.self.records.value c.next_arrival.new.self.records.value
-          c.args.self.now.heading c.args.self.now.bounds text before (records ++ fields ∷ []) c.push.new.self.items (Ok true)
-          (rw items (spelled-more c.args.self.now.heading c.args.self.now.bounds records c.loop-taken.arrivals.items fields
-          c.in-Some.arrival spelled is)) more more;
+          stretch-read (records ++ fields ∷ []) (rw items
+          (spelled-more _ Ok records c.loop-taken.arrivals.items spelled fields
+          c.in-Some.arrival is)) more more;
     }
 
 pub returns-clause-reads : goal.returns-clause-reads
@@ -96,6 +92,5 @@ returns-clause-reads g c = record {
   same = c.loop-taken.invariant.same;
   reads = λ text before read.
       let (records, spelled, now) = c.loop-taken.invariant.reads text before read in
-      stretch-read g.R.Read.remaining c.loop-taken.self.records.value c.loop-taken.self.records.value c.args.self.now.heading
-      c.args.self.now.bounds text before records c.loop-taken.arrivals.items (Ok true) spelled now now;
+      stretch-read records spelled now now;
 }

@@ -6,8 +6,7 @@ pub loop-arrival-init : goal.loop-arrival-init
 loop-arrival-init c = record {
   keeps = c.requires;
   next = omega arith;
-  taken = λ heading before records came taken gathered spelled.
-      none-gathered-of heading c.args.bounds before records came c.args.arrivals.now c.args.self.now taken gathered;
+  taken = λ heading before records came taken gathered spelled. none-gathered-of taken gathered;
 }
 
 pub returns-in-Err : goal.returns-in-Err
@@ -18,11 +17,9 @@ returns-in-Err c = record {
   own = c.in-Err.ensures.own;
   answer = λ heading before records later came taken gathered spelled.
       let at = c.loop-arrival.arrival-index in
-      let xs = c.args.arrivals.now in
       let to = c.loop-arrival.invariant.taken heading before records came taken gathered spelled in
-      gathering-fault heading c.args.bounds before records came xs spelled at c.loop-arrival-test.true _ c.loop-arrival.self later
-      c.in-Err.cause to
-      (c.in-Err.ensures.err (came ++ take at xs) to.gathered);
+      gathering-fault at to c.loop-arrival-test.true spelled _ later c.in-Err.cause
+      (c.in-Err.ensures.err (came ++ take at c.args.arrivals.now) to.gathered);
 }
 
 pub loop-arrival-preserved : goal.loop-arrival-preserved
@@ -31,11 +28,9 @@ loop-arrival-preserved c = record {
   next = omega (arith, c.in_default.ensures.next, c.loop-arrival.invariant.next);
   taken = λ heading before records came taken gathered spelled.
       let at = c.loop-arrival.arrival-index in
-      let xs = c.args.arrivals.now in
       let to = c.loop-arrival.invariant.taken heading before records came taken gathered spelled in
-      let (none, more) = c.in_default.ensures.ok (came ++ take at xs) to.gathered in
-      gathered-next heading c.args.bounds before records came xs spelled at c.loop-arrival-test.true _ c.loop-arrival.self c.add.new.self to
-      none more;
+      let (none, more) = c.in_default.ensures.ok (came ++ take at c.args.arrivals.now) to.gathered in
+      gathered-next at to c.loop-arrival-test.true spelled _ none more;
 }
 
 pub returns : goal.returns
@@ -45,7 +40,6 @@ returns c = record {
   at = tt;
   own = tt;
   answer = λ heading before records later came taken gathered spelled.
-      all-gathered heading c.args.bounds before records came c.args.arrivals.now spelled c.loop-arrival.self c.loop-arrival.arrival-index
-      c.loop-arrival-test.false
+      all-gathered spelled c.loop-arrival-test.false
       (c.loop-arrival.invariant.taken heading before records came taken gathered spelled);
 }

@@ -7,12 +7,11 @@ pub returns-clause-holds : goal.returns-clause-holds
 returns-clause-holds c =
     let (ended, number, clients, keys) = c.in_ok-open_epoch.ensures.turned in (
       number,
-      λ before held. turned c.args.self.now c.open_epoch.new.self c.args.epoch before
-          (omega (arith, c.requires, c.if-self-epoch.false)) ended number clients keys held,
+      λ before held. turned held (omega (arith, c.requires, c.if-self-epoch.false)) ended number clients keys,
     )
 
 pub returns-clause-keeps : goal.returns-clause-keeps
 returns-clause-keeps c = λ bounds keeps.
     let (ended, number, clients, keys) = c.in_ok-open_epoch.ensures.turned in
-    turned-keeps c.args.self.now c.open_epoch.new.self c.args.epoch bounds (omega (arith, c.requires, c.if-self-epoch.false)) ended number
-    clients keys c.open_epoch.ensures.next keeps
+    turned-keeps keeps
+    (omega (arith, c.requires, c.if-self-epoch.false)) ended number clients keys c.open_epoch.ensures.next
