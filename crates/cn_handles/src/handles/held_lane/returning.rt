@@ -59,9 +59,7 @@ impl TakeStop {
     {
         match self {
             TakeStop::Nothing => Refusal::Nothing,
-            TakeStop::NothingBack(_) | TakeStop::Full(_) | TakeStop::Late(_) => {
-                Refusal::NothingBack
-            }
+            _ => Refusal::NothingBack,
         }
     }
 }
