@@ -1,5 +1,5 @@
 -- Clients of a list who come in by one entry, and their names.
-use Rattle.cn_handles.proofs.Common.{◌≡◌, ℕ, zero, suc, ◌+◌, ◌-◌, ◌<◌, ◌≤◌, List, [], ◌∷◌, ◌++◌, arith, refl, ap, ◌∙◌, append_assoc, drop, get_or, length, map, min, slice_index, slice_set, take, length-drop, length-map, map-append, Grant, AreNamesBy, HaveNames, IsLongestRun, all_by, Client}
+use Rattle.cn_handles.proofs.Common.{◌≡◌, ℕ, zero, suc, ◌+◌, ◌-◌, ◌<◌, ◌≤◌, List, [], ◌∷◌, ◌++◌, arith, refl, sym, ap, ◌∙◌, append_assoc, drop, get_or, length, map, min, slice_index, slice_set, take, length-drop, length-map, map-append, Grant, AreNamesBy, HaveNames, IsLongestRun, all_by, Client}
 use Rattle.std.proofs.lemmas.List.{length-take-le}
 use Rattle.std.proofs.lemmas.List.Sorted.{IsPermutation-append, IsPermutation-refl}
 use Rattle.cn_floor.specs.declared.view.View.{View}
@@ -56,13 +56,8 @@ run-length i n ids few = length-take-le n (drop i ids) (omega (arith, length-dro
 pub as-many-names : (v w : View) (ids names : List ℕ) → HaveNames v w ids names → length names ≡ length ids
 as-many-names v w ids names have =
     let is = have.2 in
-    omega (
-      arith,
-      ap (λ (xs : List ℕ). length xs) is.called,
-      ap (λ (xs : List ℕ). length xs) is.whose,
-      length-map is.order (λ (g : Grant). g.client),
-      length-map is.order (λ (g : Grant). g.name),
-    )
+    ap (λ (xs : List ℕ). length xs) (sym is.called) ∙ length-map is.order (λ (g : Grant). g.name)
+    ∙ sym (length-map is.order (λ (g : Grant). g.client)) ∙ ap (λ (xs : List ℕ). length xs) is.whose
 
 -- a client that is named by itself
 pub one-named : (ids names : List ℕ) (grant : Grant) → length ids ≡ 1 → length names ≡ length ids → grant.client ≡ slice_index ids 0

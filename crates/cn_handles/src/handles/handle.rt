@@ -132,12 +132,11 @@ impl Handle {
 impl Drop for Handle {
     /// Hands a lane back if it can, so that its floor can be closed without it.
     fn drop(self) {
-        let Some(mut boxed) = self.into_box() else {
-            return;
-        };
-        match replace(boxed.as_mut(), Held::Nothing) {
-            Held::Lane(lane) => drop(lane.hand_back(boxed)),
-            other => drop(other),
+        if let Some(mut boxed) = self.into_box() {
+            match replace(boxed.as_mut(), Held::Nothing) {
+                Held::Lane(lane) => drop(lane.hand_back(boxed)),
+                other => drop(other),
+            }
         }
     }
 }
