@@ -78,10 +78,9 @@ fn fill_in_threads<'s, G: SharedFloor + Sync, R: Threads>(
                 × ((G.home floor.now).start.quota ≤ length slots.now) }
         { fill_all(alloc, floor.floor(), other, second, slots) },
     );
-    match (one, two) {
-        (Some((lane, first)), Some((other, second))) => Some((lane, other, first, second)),
-        _ => None,
-    }
+    let (lane, first) = one?;
+    let (other, second) = two?;
+    Some((lane, other, first, second))
 }
 
 /// Two threads fill slots at once, on a floor that gave no name yet, and the floor is closed: the slots that each

@@ -60,10 +60,9 @@ fn name_in_threads<G: SharedFloor + Sync, R: Threads>(
             requires { (other.home ≡ G.home floor.now) × (tokens_in other.yard.lists ≡ 0) }
         { name_all(alloc, floor.floor(), other, second) },
     );
-    match (one, two) {
-        (Some((lane, first)), Some((other, second))) => Some((lane, other, first, second)),
-        _ => None,
-    }
+    let (lane, first) = one?;
+    let (other, second) = two?;
+    Some((lane, other, first, second))
 }
 
 /// What two threads were given, before the floor is closed.
