@@ -80,7 +80,7 @@ MOST = {
         **{f"counted_slot::{name}": ANY for name in ("Claim", "Counted", "Fits", "FREE", "MARKED", "MOST_READERS",
                                                      "ONE_READER", "PRESENT", "TAKEN")},
         "Counted": 8, "Counted::new": 2, "OnePlace": 3, "RowSlot": 6, ".turn": 3, "turn_place": 4, "take_from": 3,
-        "put_at": 3, "no_rows": 2, "free_place": 3, ".add": 4, ".subtract": 2, ".slot": 5, ".returns": 5,
+        "no_rows": 2, ".add": 4, ".subtract": 2, ".slot": 5, ".returns": 5,
         "Ended::after": 1, ".new_search": 2, ".search": 3, ".search_lane": 2, ".search_free": 1, "read_row": 3,
         "std::sync::atomic::AtomicU64": ANY, "AtomicU64": 13, "std::sync::atomic::Ordering::SeqCst": 5,
         ".load": 8, ".fetch_add": 4, ".fetch_sub": 3,
@@ -89,7 +89,7 @@ MOST = {
         # Two grants of a slice of a lane's own.
         ".swap": 1,
         # Who goes there, and who owns a floor or a row.
-        "std::sync::Arc": ANY, "Arc": 24, "FloorShare": 14, "::try_clone": 4, ".share": 1, ".another_owner": 1,
+        "std::sync::Arc": ANY, "Arc": 23, "FloorShare": 13, "::try_clone": 4, ".another_owner": 1,
         ".shared": 2, "with_places": 15, ".hand_back": 4, ".take_back": 3,
         # Lanes and takers that are split off, and floors that open.
         ".split": 2, ".split_off": 1, "::open": 2, "::open_after": 2, "::open_words": 2, "open_for_takers": 3,

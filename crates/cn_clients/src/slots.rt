@@ -72,18 +72,15 @@ fn fill_in_threads<'s, G: SharedFloor + Sync, R: Threads>(
         move || -> Option<(Lane, Vec<Filled<'_>>)>
             requires { (lane.home ≡ G.home floor.now) × (tokens_in lane.yard.lists ≡ 0)
                 × ((G.home floor.now).start.quota ≤ length slots.now) }
-            ensures { IfSome result (λ r. FilledBy slots.entry.now lane r.0 first.entry.now r.1.items) }
         { fill_all(alloc, floor.floor(), lane, first, slots) },
         move || -> Option<(Lane, Vec<Filled<'_>>)>
             requires { (other.home ≡ G.home floor.now) × (tokens_in other.yard.lists ≡ 0)
                 × ((G.home floor.now).start.quota ≤ length slots.now) }
-            ensures { IfSome result (λ r. FilledBy slots.entry.now other r.0 second.entry.now r.1.items) }
         { fill_all(alloc, floor.floor(), other, second, slots) },
     );
-    match (one, two) {
-        (Some((lane, first)), Some((other, second))) => Some((lane, other, first, second)),
-        _ => None,
-    }
+    let (lane, first) = one?;
+    let (other, second) = two?;
+    Some((lane, other, first, second))
 }
 
 /// Two threads fill slots at once, on a floor that gave no name yet, and the floor is closed: the slots that each
@@ -113,9 +110,7 @@ pub fn fill_by_two<'s, R: Threads>(
         return None;
     };
     let filled = fill_in_threads(rt, alloc, &floor, (lane, other), first, second, slots);
-    let Some((lane, other, one, two)) = filled else {
-        return None;
-    };
+    let (lane, other, one, two) = filled?;
     let Ok(lane) = floor.join(lane, other) else {
         return None;
     };

@@ -55,17 +55,14 @@ fn name_in_threads<G: SharedFloor + Sync, R: Threads>(
         rt,
         move || -> Option<(Lane, Vec<u64>)>
             requires { (lane.home ≡ G.home floor.now) × (tokens_in lane.yard.lists ≡ 0) }
-            ensures { IfSome result (λ r. GaveNames lane r.0 first.entry.now r.1.items) }
         { name_all(alloc, floor.floor(), lane, first) },
         move || -> Option<(Lane, Vec<u64>)>
             requires { (other.home ≡ G.home floor.now) × (tokens_in other.yard.lists ≡ 0) }
-            ensures { IfSome result (λ r. GaveNames other r.0 second.entry.now r.1.items) }
         { name_all(alloc, floor.floor(), other, second) },
     );
-    match (one, two) {
-        (Some((lane, first)), Some((other, second))) => Some((lane, other, first, second)),
-        _ => None,
-    }
+    let (lane, first) = one?;
+    let (other, second) = two?;
+    Some((lane, other, first, second))
 }
 
 /// What two threads were given, before the floor is closed.
@@ -105,9 +102,7 @@ pub fn name_by_two<R: Threads>(
     ensures later { IfSome result (λ r. (r.0.view.seen ≡ r.2.entered) × (r.1.view.seen ≡ r.2.entered)) }
 {
     let named = name_in_threads(rt, alloc, floor, lane, other, first, second);
-    let Some((lane, other, first, second)) = named else {
-        return None;
-    };
+    let (lane, other, first, second) = named?;
     let (lane, other, entered) = floor.look_at_both(lane, other);
     let named = Named {
         first,

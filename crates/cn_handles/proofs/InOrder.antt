@@ -1,33 +1,29 @@
 -- Clients of a list who come in by one entry, and their names.
-use Rattle.cn_handles.proofs.Common.{◌≡◌, ℕ, zero, suc, ◌+◌, ◌-◌, ◌<◌, ◌≤◌, List, [], ◌∷◌, ◌++◌, arith, refl, ap, ◌∙◌, drop, get_or, length, map, min, slice_index, slice_set, take, length-drop, length-map, map-append, Grant, AreNamesBy, IsLongestRun, all_by, by_entry, client_from, Client}
+use Rattle.cn_handles.proofs.Common.{◌≡◌, ℕ, zero, suc, ◌+◌, ◌-◌, ◌<◌, ◌≤◌, List, [], ◌∷◌, ◌++◌, arith, refl, sym, ap, ◌∙◌, append_assoc, drop, get_or, length, map, min, slice_index, slice_set, take, length-drop, length-map, map-append, Grant, AreNamesBy, HaveNames, IsLongestRun, all_by, Client}
+use Rattle.std.proofs.lemmas.List.{length-take-le}
 use Rattle.std.proofs.lemmas.List.Sorted.{IsPermutation-append, IsPermutation-refl}
-use Rattle.cn_ledger.specs.declared.client.Client as ledger
+use Rattle.cn_floor.specs.declared.view.View.{View}
 use Rattle.cn_handles.proofs.Listed.{map-part}
 
 -- names of clients, and then of others
-pub both-named : (some most : List Grant) (xs ys ns ms : List ℕ) → AreNamesBy some xs ns → AreNamesBy most ys ms
-    → AreNamesBy (some ++ most) (xs ++ ys) (ns ++ ms)
-both-named some most xs ys ns ms a b =
-    let client : Grant → ℕ = λ g. g.client in
-    let name : Grant → ℕ = λ g. g.name in
-    record {
-      order = a.order ++ b.order;
-      same = IsPermutation-append some a.order most b.order a.same b.same;
-      whose = map-append client a.order b.order ∙ ap (λ (zs : List ℕ). zs ++ map client b.order) a.whose
-          ∙ ap (λ (zs : List ℕ). xs ++ zs) b.whose;
-      called = map-append name a.order b.order ∙ ap (λ (zs : List ℕ). zs ++ map name b.order) a.called
-          ∙ ap (λ (zs : List ℕ). ns ++ zs) b.called;
-    }
+pub both-named : (u v w : View) (xs ys ns ms : List ℕ) → HaveNames u v xs ns → HaveNames v w ys ms
+    → HaveNames u w (xs ++ ys) (ns ++ ms)
+both-named u v w xs ys ns ms was is = let (some, grants, a) = was in let (most, grew, b) = is in (
+  some ++ most,
+  grew ∙ ap (λ (gs : List Grant). gs ++ most) grants ∙ append_assoc u.grants some most,
+  record {
+    order = a.order ++ b.order;
+    same = IsPermutation-append some a.order most b.order a.same b.same;
+    whose = map-append (λ (g : Grant). g.client) a.order b.order ∙ (λ i. a.whose i ++ b.whose i);
+    called = map-append (λ (g : Grant). g.name) a.order b.order ∙ (λ i. a.called i ++ b.called i);
+  },
+)
 
 -- ---- clients who come in by one entry
 
 pub ids-all : (entry : ℕ) (ids : List ℕ) → map (λ (c : Client). c.client) (all_by entry ids) ≡ ids
 ids-all entry [] = refl
 ids-all entry (x ∷ ids) = ap (λ (xs : List ℕ). x ∷ xs) (ids-all entry ids)
-
-pub from-all : (entry : ℕ) (ids : List ℕ) → map client_from (all_by entry ids) ≡ by_entry entry ids
-from-all entry [] = refl
-from-all entry (x ∷ ids) = ap (λ (cs : List ledger.Client). record { id = x; entry = entry } ∷ cs) (from-all entry ids)
 
 entry-at : (entry i j : ℕ) (ids : List ℕ) (c : Client) → i + j < length ids → (get_or (drop i (all_by entry ids)) j c).entry ≡ entry
 entry-at entry i j [] c less = absurd (omega (arith, less))
@@ -54,23 +50,14 @@ run-ids entry i n ids = map-part (λ (c : Client). c.client) i n (all_by entry i
     ∙ ap (λ (xs : List ℕ). take n (drop i xs)) (ids-all entry ids)
 
 pub run-length : (i n : ℕ) (ids : List ℕ) → i + n ≤ length ids → length (take n (drop i ids)) ≡ n
-run-length zero zero ids few = refl
-run-length zero (suc n) [] few = absurd (omega (arith, few))
-run-length zero (suc n) (x ∷ ids) few =
-    let rest : length (take n ids) ≡ n = run-length zero n ids (omega (arith, few)) in omega (arith, rest)
-run-length (suc i) n [] few = absurd (omega (arith, few))
-run-length (suc i) n (x ∷ ids) few = run-length i n ids (omega (arith, few))
+run-length i n ids few = length-take-le n (drop i ids) (omega (arith, length-drop i ids, few))
 
 -- as many names as clients
-pub as-many-names : (grants : List Grant) (ids names : List ℕ) → AreNamesBy grants ids names → length names ≡ length ids
-as-many-names grants ids names is =
-    omega (
-      arith,
-      ap (λ (xs : List ℕ). length xs) is.called,
-      ap (λ (xs : List ℕ). length xs) is.whose,
-      length-map is.order (λ (g : Grant). g.client),
-      length-map is.order (λ (g : Grant). g.name),
-    )
+pub as-many-names : (v w : View) (ids names : List ℕ) → HaveNames v w ids names → length names ≡ length ids
+as-many-names v w ids names have =
+    let is = have.2 in
+    ap (λ (xs : List ℕ). length xs) (sym is.called) ∙ length-map is.order (λ (g : Grant). g.name)
+    ∙ sym (length-map is.order (λ (g : Grant). g.client)) ∙ ap (λ (xs : List ℕ). length xs) is.whose
 
 -- a client that is named by itself
 pub one-named : (ids names : List ℕ) (grant : Grant) → length ids ≡ 1 → length names ≡ length ids → grant.client ≡ slice_index ids 0

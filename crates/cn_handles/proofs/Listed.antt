@@ -1,5 +1,6 @@
 -- Clients of a list, of whom those who follow one another by one entry are named together.
-use Rattle.cn_handles.proofs.Common.{◌≡◌, ℕ, zero, suc, ◌+◌, ◌<◌, ◌≤◌, ◌==◌, cond, count_by, drop, replicate, List, [], ◌∷◌, ◌++◌, get_or, length, map, take, refl, sym, ap, ◌∙◌, arith, append_assoc, length-append, length-map, map-append, Yard, tokens_in, Grant, LaneValue, with_rooms, AreNamed, WalksAll, AreAllNamed, by_entry, client_from}
+use Rattle.cn_handles.proofs.Common.{◌≡◌, ℕ, zero, suc, ◌+◌, ◌<◌, ◌≤◌, ◌==◌, cond, count_by, drop, replicate, List, [], ◌∷◌, ◌++◌, get_or, length, map, take, refl, sym, ap, subst, ◌∙◌, arith, append_assoc, drop-drop, drop_of_length-le, length-append, length-drop, length-map, map-append, take_all, Yard, tokens_in, Grant, FloorValue, LaneValue, StoodInState, with_rooms, AreNamed, WalksAll, AreAllNamed, AreNamedAtOnce, AreNamedByRuns, IsLongestRun, by_entry, client_from}
+use Rattle.std.proofs.lemmas.List.{drop-map, drop-take, take-append-drop, take-map, take-take}
 use Rattle.std.proofs.lemmas.List.Sums.{sum_by-append, sum_by-cons}
 use Rattle.cn_spec.specs.Sums.{times}
 use Rattle.cn_spec.proofs.CallerLemmas.{times-cons, times-nil}
@@ -72,20 +73,12 @@ more a b c xs ys was is =
     }
 
 -- the first clients of a list, and then those after them
-pub take_both : {X : Type 0} (i n : ℕ) (xs : List X) → i ≤ length xs → take (i + n) xs ≡ take i xs ++ take n (drop i xs)
-take_both zero n xs few = ap (λ (k : ℕ). take k xs) (let none : 0 + n ≡ n = omega arith in none)
-take_both (suc i) n [] few = absurd (omega (arith, few))
-take_both (suc i) n (x ∷ xs) few =
-    ap (λ (k : ℕ). take k (x ∷ xs)) (let one : suc i + n ≡ suc (i + n) = omega arith in one)
-    ∙ ap (λ (ys : List _). x ∷ ys) (take_both i n xs (omega (arith, few)))
+pub take_both : {X : Type 0} (i n : ℕ) (xs : List X) → take (i + n) xs ≡ take i xs ++ take n (drop i xs)
+take_both i n xs =
+    sym (take-append-drop i (take (i + n) xs)) ∙ (λ j. take-take i (i + n) xs (omega arith) j ++ drop-take i n xs j)
 
 pub map-part : {X Y : Type 0} (f : X → Y) (i n : ℕ) (xs : List X) → map f (take n (drop i xs)) ≡ take n (drop i (map f xs))
-map-part f zero zero xs = refl
-map-part f zero (suc n) [] = refl
-map-part f zero (suc n) (x ∷ xs) = ap (λ (ys : List _). f x ∷ ys) (map-part f zero n xs)
-map-part f (suc i) zero [] = refl
-map-part f (suc i) (suc n) [] = refl
-map-part f (suc i) n (x ∷ xs) = map-part f i n xs
+map-part f i n xs = sym (take-map f n (drop i xs)) ∙ ap (λ (ys : List _). take n ys) (sym (drop-map f i xs))
 
 -- clients who all come in by one entry, by their identities
 pub by-run : (n entry : ℕ) (clients : List c.Client) → n ≤ length clients
@@ -98,6 +91,56 @@ by-run (suc n) entry (x ∷ clients) few same =
     ap (λ (k : ℕ). record { id = x.client; entry = k } ∷ map client_from (take n clients)) here
     ∙ ap (λ (ds : List Client). record { id = x.client; entry = entry } ∷ ds)
     (by-run n entry clients (omega (arith, few)) (λ i d l. same (suc i) d (omega (arith, l))))
+
+-- the first clients of a list are named, and by runs: a lane that names the others by runs has named all by runs
+pub record AreFirstNamed (old mid : LaneValue) (clients : List c.Client) (i : ℕ) : Type 0 where
+  pub few : i ≤ length clients
+  pub walked : WalksAll old mid (take i (map client_from clients))
+  pub runs : (ns : List ℕ) (new : LaneValue) → AreNamedByRuns ns mid new (drop i clients)
+      → (ms : List ℕ) × AreNamedByRuns ms old new clients
+  pub in_state : 0 < i → StoodInState old.home.start mid.view
+
+-- another run is named
+pub run-more : (old mid last : LaneValue) (clients : List c.Client) (i n entry : ℕ) (ids : List ℕ)
+    → AreFirstNamed old mid clients i → IsLongestRun (drop i clients) entry 64 n
+    → ids ≡ map (λ d. d.client) (take n (drop i clients)) → AreNamedAtOnce mid last ids entry
+    → WalksAll mid last (by_entry entry ids) → StoodInState mid.home.start last.view
+    → AreFirstNamed old last clients (i + n)
+run-more old mid last clients i n entry ids was run are at_once walked stood =
+    let all : List Client = map client_from clients in
+    let by : take n (drop i all) ≡ by_entry entry ids =
+    sym (map-part client_from i n clients) ∙ by-run n entry (drop i clients) run.few.0 run.same
+    ∙ ap (λ (xs : List ℕ). by_entry entry xs) (sym are) in
+    let next = take_both i n all ∙ ap (λ (cs : List Client). take i all ++ cs) by in
+    record {
+      few = omega (arith, was.few, run.few, length-drop i clients);
+      walked = subst (λ (cs : List Client). WalksAll old last cs) (sym next)
+          (more old mid last (take i all) (by_entry entry ids) was.walked walked);
+      runs = λ ns new then. was.runs (n ∷ ns) new (
+        last,
+        entry,
+        run,
+        subst (λ (xs : List ℕ). AreNamedAtOnce mid last xs entry) are at_once,
+        subst (λ (cs : List c.Client). AreNamedByRuns ns last new cs) (sym (drop-drop n i clients)) then,
+      );
+      in_state = λ _. subst (λ (h : FloorValue). StoodInState h.start last.view) was.walked.home stood;
+    }
+
+pub all-named : (old new : LaneValue) (clients : List c.Client) (i : ℕ) → AreFirstNamed old new clients i
+    → length clients ≤ i
+    → (StoodInState old.home.start new.view → (name : ℕ) → times name (map (λ g. g.name) new.view.grants) ≤ 1)
+    → AreAllNamed old new clients
+all-named old new clients i was end once =
+    let (lengths, runs) = was.runs [] new (drop_of_length-le clients end, refl) in
+    let in_state : 0 < length clients → StoodInState old.home.start new.view =
+    λ some. was.in_state (omega (arith, some, end)) in
+    record {
+      walked = subst (λ (cs : List Client). WalksAll old new cs)
+          (take_all i (map client_from clients) (omega (arith, end, length-map clients client_from))) was.walked;
+      in_state = in_state;
+      runs = (old, lengths, refl, refl, refl, runs);
+      once = λ some. once (in_state some);
+    }
 
 -- a lane that had less room than was wanted, and got it first, named them all
 pub with-more-room : (a b : LaneValue) (clients : List c.Client) → a.room ≤ length clients

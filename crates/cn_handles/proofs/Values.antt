@@ -1,11 +1,15 @@
 -- The machine value of a handle. Assumes `Logic`.
-use Rattle.cn_handles.proofs.Common.{◌≡◌, ℕ, List, [], ◌∷◌, ◌++◌, refl, subst, lit<, Option, None, Some, Bool, true, false, ◌&&◌, T, Ura, impl, tnil, dnil, Val, vstruct, vcons, vnil, of_list, has_ty, ent, guard, never, fst∗, snd∗, via, full_share, fact_use, guard_i, Logic, sem, Item, Goal, Seq, Step, step, ‵, ◌$◌, given, learn, move, use1, fsplit, fjoin, fpick, fpack, feq_i, feq_l, RattleType, Valss, RawPtr, lone, Ptr, null_ptr, block_ptr, ptr_val, lies_at, in_a_block, Testable, nothing, layout, within, shape, Al, handle_tells, Good, ghosts, box_owns, holds}
+use Rattle.cn_handles.proofs.Common.{◌≡◌, ℕ, List, [], ◌∷◌, ◌++◌, refl, subst, lit<, Option, None, Some, Bool, true, false, ◌&&◌, T, Ura, impl, tnil, dnil, Val, vstruct, vcons, vnil, of_list, has_ty, ent, guard, never, fst∗, snd∗, via, id⊢, part_of, Nothing, full_share, fact_use, guard_i, Logic, sem, Item, Goal, Seq, Step, step, ‵, ◌$◌, given, learn, move, use1, fsplit, fjoin, fpick, fpack, feq_i, feq_l, RattleType, Valss, RawPtr, lone, Ptr, null_ptr, block_ptr, ptr_val, lies_at, in_a_block, Testable, nothing, layout, within, shape, Al, handle_tells, Good, ghosts, box_owns, holds}
 use mir.Raw.{raw as bare}
 use types.Kit.{drop}
 use Rattle.std.specs.contracts.alloc.Global as heap
 use Rattle.std.proofs.alloc.Global.TheLaws as heap_laws
 use Rattle.std.proofs.GlobalToken.{dealloc_token-Testable}
+use Rattle.cn_handles.specs.contracts.handles.floor_record.FloorRecord as floor_record
 use Rattle.cn_handles.specs.contracts.handles.handle.Handle as handle
+use Rattle.cn_handles.specs.contracts.handles.held.Held as kept
+use Rattle.cn_handles.specs.contracts.handles.held_taker.HeldTaker as held_taker
+use Rattle.cn_handles.specs.contracts.places.kept.LaneLayout as unshared
 use Rattle.cn_handles.specs.Holding as held
 
 abbrev pub both : Val → Val → Val
@@ -19,6 +23,20 @@ R = held.the_row
 
 abbrev pub H : RattleType
 H = handle.the_row
+
+-- what the box of a handle may have once its lane was handed back
+abbrev pub K : RattleType
+K = kept.the_row unshared.the_row floor_record.the_row held_taker.the_row
+
+-- nothing, in a box of one type, is nothing in a box of the other: both have the same cells, and own nothing there
+pub lies_alike : {M : Type 1} {𝓤 : Ura M} (𝓛 : Logic 𝓤) (a : Z.Denot) (b o : ℕ)
+    → ent 𝓤 (sem 𝓛 (box_owns (ghosts.dealloc_token a) R (block_ptr b o) Nothing))
+    (sem 𝓛 (box_owns (ghosts.dealloc_token a) K (block_ptr b o) Nothing))
+    × ent 𝓤 (sem 𝓛 (box_owns (ghosts.dealloc_token a) K (block_ptr b o) Nothing))
+    (sem 𝓛 (box_owns (ghosts.dealloc_token a) R (block_ptr b o) Nothing))
+unfolding part_of
+lies_alike {𝓤 = 𝓤} 𝓛 a b o =
+    let same = id⊢ 𝓤 (sem 𝓛 (box_owns (ghosts.dealloc_token a) R (block_ptr b o) Nothing)) in (same, same)
 
 abbrev al : Al
 al = record { row = Z; laws = heap_laws.the_row_laws; g = ghosts; d = impl [] tnil dnil; drops = impl [] tnil dnil }

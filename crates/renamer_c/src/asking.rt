@@ -19,11 +19,10 @@ pub extern "C" fn renamer_entered(lane: &mut Handle, entered: &mut u64) -> u32
     ensures kept { 0 < result → (lane.new.held ≡ lane.old.held) × (entered.new ≡ entered.old) }
     ensures refused { 0 < result → IsRefusal (NotThere (lane_in lane.old.held)) result }
 {
-    let answer = match lane.get_mut() {
-        Some(held) => held.with_lane(|lane| Ok(lane.entered())),
-        None => Err(Refusal::Nothing),
-    };
-    write(answer, entered)
+    match lane.get_mut() {
+        Some(held) => write(held.with_lane(|lane| Ok(lane.entered())), entered),
+        None => write(Err(Refusal::Nothing), entered),
+    }
 }
 
 /// Makes room for so many clients.
@@ -34,11 +33,10 @@ pub extern "C" fn renamer_reserve(lane: &mut Handle, clients: u64) -> u32
     ensures kept { 0 < result → lane.new.held ≡ lane.old.held }
     ensures refused { 0 < result → IsRefusal (NotReserved (lane_in lane.old.held)) result }
 {
-    let answer = match lane.get_mut() {
-        Some(held) => held.with_lane(|lane| lane.reserve(clients)),
-        None => Err(Refusal::Nothing),
-    };
-    status(answer)
+    match lane.get_mut() {
+        Some(held) => status(held.with_lane(|lane| lane.reserve(clients))),
+        None => status(Err(Refusal::Nothing)),
+    }
 }
 
 /// Asks a lane for a number.
@@ -49,11 +47,10 @@ fn ask(lane: &mut Handle, question: Question, to: &mut u64) -> u32
     ensures kept { 0 < result → to.new ≡ to.old }
     ensures refused { 0 < result → IsRefusal (NotThere (lane_in lane.old.held)) result }
 {
-    let answer = match lane.get_mut() {
-        Some(held) => held.with_lane(|lane| Ok(lane.ask(question))),
-        None => Err(Refusal::Nothing),
-    };
-    write(answer, to)
+    match lane.get_mut() {
+        Some(held) => write(held.with_lane(|lane| Ok(lane.ask(question))), to),
+        None => write(Err(Refusal::Nothing), to),
+    }
 }
 
 /// How many clients more the lane may let in.

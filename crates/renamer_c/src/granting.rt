@@ -19,9 +19,8 @@ pub extern "C" fn renamer_grants(lane: &mut Handle, first: u64, grants: &mut [Gr
     ensures refused { 0 < result
         → IsRefusal (NotGranted (lane_in lane.old.held) first (length grants.old)) result }
 {
-    let answer = match lane.get_mut() {
-        Some(held) => copy_grants(held, first, grants),
-        None => Err(Refusal::Nothing),
-    };
-    status(answer)
+    match lane.get_mut() {
+        Some(held) => status(copy_grants(held, first, grants)),
+        None => status(Err(Refusal::Nothing)),
+    }
 }

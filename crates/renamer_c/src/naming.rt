@@ -18,11 +18,10 @@ pub extern "C" fn renamer_name(lane: &mut Handle, client: u64, entry: u64, name:
     ensures kept { 0 < result → (lane.new.held ≡ lane.old.held) × (name.new ≡ name.old) }
     ensures refused { 0 < result → IsRefusal (NotNamed (lane_in lane.old.held) entry) result }
 {
-    let answer = match lane.get_mut() {
-        Some(held) => held.with_lane(|lane| lane.name(client, entry)),
-        None => Err(Refusal::Nothing),
-    };
-    write(answer, name)
+    match lane.get_mut() {
+        Some(held) => write(held.with_lane(|lane| lane.name(client, entry)), name),
+        None => write(Err(Refusal::Nothing), name),
+    }
 }
 
 /// Names clients, those who follow one another by one entry together. Copies their grants, in the order in which they
@@ -39,11 +38,10 @@ pub extern "C" fn renamer_name_many(
     ensures refused { 0 < result
         → IsRefusal (NotNamedMany (lane_in lane.old.held) clients.now (length grants.old)) result }
 {
-    let answer = match lane.get_mut() {
-        Some(held) => name_many(held, clients, grants),
-        None => Err(Refusal::Nothing),
-    };
-    status(answer)
+    match lane.get_mut() {
+        Some(held) => status(name_many(held, clients, grants)),
+        None => status(Err(Refusal::Nothing)),
+    }
 }
 
 /// Names clients who come in by one entry, together, and writes the name of each at its place in the list.
@@ -60,9 +58,8 @@ pub extern "C" fn renamer_name_list(
     ensures refused { 0 < result
         → IsRefusal (NotNamedList (lane_in lane.old.held) (length clients.now) entry (length names.old)) result }
 {
-    let answer = match lane.get_mut() {
-        Some(held) => name_list(held, clients, entry, names),
-        None => Err(Refusal::Nothing),
-    };
-    status(answer)
+    match lane.get_mut() {
+        Some(held) => status(name_list(held, clients, entry, names)),
+        None => status(Err(Refusal::Nothing)),
+    }
 }

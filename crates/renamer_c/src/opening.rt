@@ -6,6 +6,7 @@ ghost use Rattle.cn_handles.specs.Handles.{lane_in, record_in};
 ghost use Rattle.cn_handles.specs.Refusals.{IsRefusal, NotOpened, NotOpenedAfter, NotSplit, WithLane};
 ghost use Rattle.cn_handles.specs.declared.handles.refusal.TheConstants.{DONE};
 
+use crate::answer::put;
 use cn_handles::{DONE, Handle, Refusal, open, open_after, split};
 use std::alloc::Global;
 
@@ -31,13 +32,7 @@ pub extern "C" fn renamer_open(
     ensures kept { 0 < result → lane.new.held ≡ lane.old.held }
     ensures refused { 0 < result → IsRefusal (NotOpened kind width quota) result }
 {
-    match open(alloc, kind, width, quota, false) {
-        Ok(held) => {
-            lane.put(held);
-            DONE
-        }
-        Err(refusal) => refusal.status(),
-    }
+    put(open(alloc, kind, width, quota, false), lane)
 }
 
 /// Opens such a floor, whose words lie apart in memory.
@@ -77,16 +72,9 @@ pub extern "C" fn renamer_open_after(
     ensures kept { 0 < result → lane.new.held ≡ lane.old.held }
     ensures refused { 0 < result → IsRefusal (NotOpenedAfter (record_in quiet.old.held) quota) result }
 {
-    let opened = match quiet.get_mut() {
-        Some(held) => open_after(alloc, held, quota),
-        None => Err(Refusal::Nothing),
-    };
-    match opened {
-        Ok(opened) => {
-            lane.put(opened);
-            DONE
-        }
-        Err(refusal) => refusal.status(),
+    match quiet.get_mut() {
+        Some(held) => put(open_after(alloc, held, quota), lane),
+        None => put(Err(Refusal::Nothing), lane),
     }
 }
 
@@ -103,16 +91,9 @@ pub extern "C" fn renamer_split(
     ensures kept { 0 < result → (lane.new.held ≡ lane.old.held) × (other.new.held ≡ other.old.held) }
     ensures refused { 0 < result → IsRefusal (NotSplit (lane_in lane.old.held) quota) result }
 {
-    let second = match lane.get_mut() {
-        Some(held) => split(alloc, held, quota),
-        None => Err(Refusal::Nothing),
-    };
-    match second {
-        Ok(second) => {
-            other.put(second);
-            DONE
-        }
-        Err(refusal) => refusal.status(),
+    match lane.get_mut() {
+        Some(held) => put(split(alloc, held, quota), other),
+        None => put(Err(Refusal::Nothing), other),
     }
 }
 

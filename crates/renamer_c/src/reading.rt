@@ -9,21 +9,6 @@ ghost use Rattle.cn_handles.specs.declared.handles.refusal.TheConstants.{DONE};
 use crate::answer::{status, write};
 use cn_handles::{Handle, RecordList, Refusal, copy_list, list_size};
 
-/// Asks how long a list of the record is.
-fn ask_size(quiet: &mut Handle, which: RecordList, size: &mut u64) -> u32
-    ensures answered { result ≡ DONE
-        → WithRecord (record_in quiet.old.held) (λ r. size.new ≡ length (list_of which r)) }
-    ensures quiet { quiet.new.held ≡ quiet.old.held }
-    ensures kept { 0 < result → size.new ≡ size.old }
-    ensures refused { 0 < result → IsRefusal (NotThere (record_in quiet.old.held)) result }
-{
-    let answer = match quiet.get_mut() {
-        Some(held) => list_size(held, which),
-        None => Err(Refusal::Nothing),
-    };
-    write(answer, size)
-}
-
 /// Copies a list of the record.
 fn ask_list(quiet: &mut Handle, which: RecordList, to: &mut [u64]) -> u32
     ensures copied { result ≡ DONE
@@ -33,11 +18,10 @@ fn ask_list(quiet: &mut Handle, which: RecordList, to: &mut [u64]) -> u32
     ensures refused { 0 < result
         → IsRefusal (NotCopied (record_in quiet.old.held) which (length to.old)) result }
 {
-    let answer = match quiet.get_mut() {
-        Some(held) => copy_list(held, which, to),
-        None => Err(Refusal::Nothing),
-    };
-    status(answer)
+    match quiet.get_mut() {
+        Some(held) => status(copy_list(held, which, to)),
+        None => status(Err(Refusal::Nothing)),
+    }
 }
 
 /// How many exits the floor had.
@@ -49,7 +33,10 @@ pub extern "C" fn renamer_quiet_exits(quiet: &mut Handle, exits: &mut u64) -> u3
     ensures kept { 0 < result → exits.new ≡ exits.old }
     ensures refused { 0 < result → IsRefusal (NotThere (record_in quiet.old.held)) result }
 {
-    ask_size(quiet, RecordList::Counts, exits)
+    match quiet.get_mut() {
+        Some(held) => write(list_size(held, RecordList::Counts), exits),
+        None => write(Err(Refusal::Nothing), exits),
+    }
 }
 
 /// How many clients the floor named.
@@ -61,7 +48,10 @@ pub extern "C" fn renamer_quiet_clients(quiet: &mut Handle, clients: &mut u64) -
     ensures kept { 0 < result → clients.new ≡ clients.old }
     ensures refused { 0 < result → IsRefusal (NotThere (record_in quiet.old.held)) result }
 {
-    ask_size(quiet, RecordList::Holders, clients)
+    match quiet.get_mut() {
+        Some(held) => write(list_size(held, RecordList::Holders), clients),
+        None => write(Err(Refusal::Nothing), clients),
+    }
 }
 
 /// Copies how many left by each exit.

@@ -19,11 +19,10 @@ pub extern "C" fn renamer_enter(lane: &mut Handle, client: u64, entry: u64) -> u
     ensures kept { 0 < result → lane.new.held ≡ lane.old.held }
     ensures refused { 0 < result → IsRefusal (NotEntered (lane_in lane.old.held) entry) result }
 {
-    let answer = match lane.get_mut() {
-        Some(held) => held.with_lane(|lane| lane.enter(client, entry)),
-        None => Err(Refusal::Nothing),
-    };
-    status(answer)
+    match lane.get_mut() {
+        Some(held) => status(held.with_lane(|lane| lane.enter(client, entry))),
+        None => status(Err(Refusal::Nothing)),
+    }
 }
 
 /// Lets the lane's first client on a wire go by the end of the wire.
@@ -34,11 +33,10 @@ pub extern "C" fn renamer_step(lane: &mut Handle, wire: u64, moved: &mut Moved) 
     ensures kept { 0 < result → (lane.new.held ≡ lane.old.held) × (moved.new ≡ moved.old) }
     ensures refused { 0 < result → IsRefusal (NobodyOn (lane_in lane.old.held) wire) result }
 {
-    let answer = match lane.get_mut() {
-        Some(held) => held.with_lane(|lane| lane.step(wire)),
-        None => Err(Refusal::Nothing),
-    };
-    write(answer, moved)
+    match lane.get_mut() {
+        Some(held) => write(held.with_lane(|lane| lane.step(wire)), moved),
+        None => write(Err(Refusal::Nothing), moved),
+    }
 }
 
 /// Lets all of the lane's clients on a wire go by the end of the wire, by one step.
@@ -49,11 +47,10 @@ pub extern "C" fn renamer_sweep(lane: &mut Handle, wire: u64, swept: &mut Swept)
     ensures kept { 0 < result → (lane.new.held ≡ lane.old.held) × (swept.new ≡ swept.old) }
     ensures refused { 0 < result → IsRefusal (NobodyOn (lane_in lane.old.held) wire) result }
 {
-    let answer = match lane.get_mut() {
-        Some(held) => held.with_lane(|lane| lane.sweep(wire)),
-        None => Err(Refusal::Nothing),
-    };
-    write(answer, swept)
+    match lane.get_mut() {
+        Some(held) => write(held.with_lane(|lane| lane.sweep(wire)), swept),
+        None => write(Err(Refusal::Nothing), swept),
+    }
 }
 
 /// The least wire on which a client of the lane stands.
@@ -65,9 +62,8 @@ pub extern "C" fn renamer_lowest(lane: &mut Handle, wire: &mut u64) -> u32
     ensures kept { 0 < result → wire.new ≡ wire.old }
     ensures refused { 0 < result → IsRefusal (NoLowestWire (lane_in lane.old.held)) result }
 {
-    let answer = match lane.get_mut() {
-        Some(held) => held.with_lane(|lane| lane.lowest()),
-        None => Err(Refusal::Nothing),
-    };
-    write(answer, wire)
+    match lane.get_mut() {
+        Some(held) => write(held.with_lane(|lane| lane.lowest()), wire),
+        None => write(Err(Refusal::Nothing), wire),
+    }
 }

@@ -6,8 +6,8 @@ ghost use Rattle.cn_handles.specs.Refusals.{IsRefusal, NotOpened, NotThere};
 ghost use Rattle.cn_handles.specs.Taking.{LieBy, NotSplitOff, NotTaken, OpensTakes, SplitsTaker, Takes, TakesMany, Tells, WithTaker};
 ghost use Rattle.cn_handles.specs.declared.handles.refusal.TheConstants.{DONE};
 
-use crate::answer::{status, write};
-use cn_handles::{DONE, Handle, Refusal, open_takes, split_taker, take_many};
+use crate::answer::{put, status, write};
+use cn_handles::{Handle, Refusal, open_takes, split_taker, take_many};
 use std::alloc::Global;
 
 /// Opens a floor over the network of this kind and width, with a taker that has all its names. It is refused as a floor
@@ -25,13 +25,7 @@ pub extern "C" fn renamer_open_takes(
     ensures kept { 0 < result → taker.new.held ≡ taker.old.held }
     ensures refused { 0 < result → IsRefusal (NotOpened kind width 0) result }
 {
-    match open_takes(alloc, kind, width, apart) {
-        Ok(held) => {
-            taker.put(held);
-            DONE
-        }
-        Err(refusal) => refusal.status(),
-    }
+    put(open_takes(alloc, kind, width, apart), taker)
 }
 
 /// Splits off another taker.
@@ -42,16 +36,9 @@ pub extern "C" fn renamer_split_taker(alloc: Global, taker: &mut Handle, other: 
     ensures kept { 0 < result → (taker.new.held ≡ taker.old.held) × (other.new.held ≡ other.old.held) }
     ensures refused { 0 < result → IsRefusal (NotSplitOff (taker_in taker.old.held)) result }
 {
-    let second = match taker.get_mut() {
-        Some(held) => split_taker(alloc, held),
-        None => Err(Refusal::Nothing),
-    };
-    match second {
-        Ok(second) => {
-            other.put(second);
-            DONE
-        }
-        Err(refusal) => refusal.status(),
+    match taker.get_mut() {
+        Some(held) => put(split_taker(alloc, held), other),
+        None => put(Err(Refusal::Nothing), other),
     }
 }
 
@@ -79,11 +66,10 @@ pub extern "C" fn renamer_take_many(taker: &mut Handle, entry: u64, names: &mut 
     ensures refused { 0 < result
         → IsRefusal (NotTaken (taker_in taker.old.held) entry (length names.old)) result }
 {
-    let answer = match taker.get_mut() {
-        Some(held) => take_many(held, entry, names),
-        None => Err(Refusal::Nothing),
-    };
-    status(answer)
+    match taker.get_mut() {
+        Some(held) => status(take_many(held, entry, names)),
+        None => status(Err(Refusal::Nothing)),
+    }
 }
 
 /// How many clients came in, by all takers, as far as this one can know.
@@ -94,11 +80,10 @@ pub extern "C" fn renamer_takes_entered(taker: &mut Handle, entered: &mut u64) -
     ensures kept { 0 < result → (taker.new.held ≡ taker.old.held) × (entered.new ≡ entered.old) }
     ensures refused { 0 < result → IsRefusal (NotThere (taker_in taker.old.held)) result }
 {
-    let answer = match taker.get_mut() {
-        Some(held) => held.with_taker(|taker| Ok(taker.entered())),
-        None => Err(Refusal::Nothing),
-    };
-    write(answer, entered)
+    match taker.get_mut() {
+        Some(held) => write(held.with_taker(|taker| Ok(taker.entered())), entered),
+        None => write(Err(Refusal::Nothing), entered),
+    }
 }
 
 /// Frees what the handle has.

@@ -55,10 +55,7 @@ pub fn copy_grants(held: &Held, first: u64, copies: &mut [Grant]) -> Result<(), 
     ensures err { OnErr result (copies.new ≡ copies.old) }
     ensures refused { IfErr result (NotGranted (lane_held held.now) first (length copies.old)) }
 {
-    let grants = match held.lane() {
-        Ok(lane) => lane.lane().grants(),
-        Err(refusal) => return Err(refusal),
-    };
+    let grants = held.lane()?.lane().grants();
     if first > grants.len() as u64 || copies.len() > grants.len() - first as usize {
         return Err(Refusal::Size);
     }

@@ -72,10 +72,7 @@ impl Handle {
     fn into_box(self) -> Option<Box<Held>>
         ensures { MatchOption result (self.held ≡ None) (λ b. self.held ≡ Some b.value) }
     {
-        match self.into_pointer() {
-            Some(loose) => Some(loose.into_box()),
-            None => None,
-        }
+        Some(self.into_pointer()?.into_box())
     }
 
     /// What is there, to be used where it is.
@@ -85,21 +82,6 @@ impl Handle {
     {
         let at = self.at as *mut Held;
         unsafe { if at.is_null() { None } else { Some(&mut *at) } }
-    }
-
-    /// Takes what is there, and leaves none.
-    ///
-    /// # Errors
-    /// `Nothing` if there was none.
-    fn take(&mut self, alloc: Global) -> Result<Box<Held>, Refusal>
-        ensures left { self.new.held ≡ None }
-        ensures taken { IfOk result (λ b. self.old.held ≡ Some b.value) }
-        ensures none { IfErr result (λ r. (r ≡ Refusal.Nothing) × (self.old.held ≡ None)) }
-    {
-        match replace(self, Handle::none(alloc)).into_box() {
-            Some(held) => Ok(held),
-            None => Err(Refusal::Nothing),
-        }
     }
 
     /// Leaves none, and lets go what was there.
@@ -119,14 +101,15 @@ impl Handle {
         ensures err { OnErr result (self.new.held ≡ self.old.held) }
         ensures refused { IfErr result (NotThere (lane_in self.old.held)) }
     {
-        match self.get_mut() {
-            Some(held) => held.lane()?,
-            None => return Err(Refusal::Nothing),
-        };
-        let mut boxed = self.take(alloc)?;
+        let held = replace(self, Handle::none(alloc)).into_box();
+        let mut boxed = held.ok_or(Refusal::Nothing)?;
         match replace(boxed.as_mut(), Held::Nothing) {
             Held::Lane(lane) => Ok((lane, boxed)),
-            _ => unreachable!(),
+            other => {
+                *boxed = other;
+                self.put(boxed);
+                Err(Refusal::Nothing)
+            }
         }
     }
 
@@ -149,12 +132,11 @@ impl Handle {
 impl Drop for Handle {
     /// Hands a lane back if it can, so that its floor can be closed without it.
     fn drop(self) {
-        let Some(mut boxed) = self.into_box() else {
-            return;
-        };
-        match replace(boxed.as_mut(), Held::Nothing) {
-            Held::Lane(lane) => drop(lane.hand_back(boxed)),
-            other => drop(other),
+        if let Some(mut boxed) = self.into_box() {
+            match replace(boxed.as_mut(), Held::Nothing) {
+                Held::Lane(lane) => drop(lane.hand_back(boxed)),
+                other => drop(other),
+            }
         }
     }
 }

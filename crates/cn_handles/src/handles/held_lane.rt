@@ -13,7 +13,7 @@ ghost use Rattle.cn_floor.specs.Carried.{client_count, start_after};
 ghost use Rattle.cn_floor.specs.Lane.{empty_lane, with_room};
 ghost use Rattle.cn_floor.specs.Named.{IsNamed};
 ghost use Rattle.cn_floor.specs.Steps.{IsAnswer, StoodInState};
-ghost use Rattle.cn_floor.specs.Views.{after_entered, base};
+ghost use Rattle.cn_floor.specs.Views.{after_entered};
 ghost use Rattle.cn_handles.specs.Calls.{IsOpened, IsSplit, LieApart};
 ghost use Rattle.cn_handles.specs.Placing.{IsPlaceOf};
 ghost use Rattle.cn_handles.specs.Questions.{number_asked};
@@ -22,10 +22,10 @@ ghost use Rattle.cn_handles.specs.Refusals.{NotNamed, NotReserved};
 use crate::handles::question::Question;
 use crate::handles::refusal::Refusal;
 use crate::places::{FloorShare, FloorWithPlaces, Place, floor_of, with_places};
-use cn_floor::{Floor, Lane, OpenFault, Words};
+use cn_floor::{Floor, Lane, Words};
 use cn_spec::limits::MOST_ROOM;
 use cn_tables::Counting;
-use std::alloc::{AllocError, Global};
+use std::alloc::Global;
 use std::marker::Model;
 use std::sync::Arc;
 
@@ -48,29 +48,6 @@ impl Model for HeldLane {
     ghost view = { λ h. h.lane };
 
     ghost invariant = { IsHeldLane };
-}
-
-/// A floor over a network, whose words lie apart or not, and its first lane.
-///
-/// # Errors
-/// The first that stands: `Quota`, `Memory`.
-fn floor_over(
-    alloc: Global,
-    network: &Arc<Counting, Global>,
-    quota: u64,
-    apart: bool,
-) -> Result<(Floor<'static>, Lane), OpenFault>
-    ensures start { IfOk result (λ r. (r.0.start.network ≡ arc_value network.now)
-        × (r.0.start.quota ≡ quota) × (base r.0.start ≡ 0)) }
-    ensures lane { IfOk result (λ r. r.1 ≡ empty_lane r.0 quota) }
-    ensures spaced { IfOk result (λ r. LieApart apart r.1) }
-{
-    let words = Words::zero_shared(alloc, network)?;
-    if apart {
-        Floor::open_words(alloc, words.apart(), quota)
-    } else {
-        Floor::open_words(alloc, words, quota)
-    }
 }
 
 impl HeldLane {
@@ -134,7 +111,13 @@ impl HeldLane {
         ensures memory { IfErr result (λ r. r ≡ Refusal.Memory) }
     {
         let network = Arc::new(alloc, network)?;
-        match floor_over(alloc, &network, quota, apart) {
+        let words = Words::zero_shared(alloc, &network)?;
+        let opened = if apart {
+            Floor::open_words(alloc, words.apart(), quota)
+        } else {
+            Floor::open_words(alloc, words, quota)
+        };
+        match opened {
             Ok((floor, lane)) => HeldLane::first(alloc, floor, lane, quota),
             Err(_) => Err(Refusal::Memory),
         }
@@ -155,19 +138,6 @@ impl HeldLane {
         Ok(floor_of(&self.floor).name(&mut self.lane, client, entry)?)
     }
 
-    /// Another share of the floor, and a place for another lane.
-    ///
-    /// # Errors
-    /// `AllocError` if they get no memory.
-    fn share(&self, alloc: Global) -> Result<(FloorShare, Place), AllocError>
-        ensures floor { IfOk result (λ r. arc_value r.0 ≡ Some self.now.home) }
-        ensures place { IfOk result (λ r. IsPlaceOf self.now.home r.1) }
-    {
-        let floor = Arc::try_clone(&self.floor)?;
-        let place = with_places(&self.floor).claim_place(alloc)?;
-        Ok((floor, place))
-    }
-
     /// Splits off a lane with some of the quota.
     ///
     /// # Errors
@@ -178,7 +148,8 @@ impl HeldLane {
         ensures err { OnErr result (self.new ≡ self.old) }
         ensures memory { IfErr result (λ r. r ≡ Refusal.Memory) }
     {
-        let (floor, place) = self.share(alloc)?;
+        let floor = Arc::try_clone(&self.floor)?;
+        let place = with_places(&floor).claim_place(alloc)?;
         match floor_of(&floor).split_off(&mut self.lane, quota) {
             Ok(other) => Ok(HeldLane::of(floor, other, self.most, place)),
             Err(_) => {

@@ -1,11 +1,9 @@
 //! A taker with its share of its floor.
 
 ghost use Rattle.std.specs.Prelude.{◌≡◌, ◌≤◌, length, Some, IfErr, IfOk, OnErr, OnOk};
-ghost use Rattle.cn_spec.specs.declared.limits.TheConstants.{MOST_TAKEN};
-ghost use Rattle.cn_floor.specs.Carried.{client_count};
 ghost use Rattle.cn_floor.specs.Steps.{IsAnswer, StoodInState};
-ghost use Rattle.cn_lists.specs.Taking.{AreTaken, IsTaken, empty_taker};
-ghost use Rattle.cn_floor.specs.Views.{after_entered, base};
+ghost use Rattle.cn_lists.specs.Taking.{AreTaken, IsTaken};
+ghost use Rattle.cn_floor.specs.Views.{after_entered};
 ghost use Rattle.cn_handles.specs.Taking.{IsFirst, IsSplitOff, LieBy, NotTaken, share_of};
 
 use crate::handles::refusal::Refusal;
@@ -45,28 +43,6 @@ impl Model for HeldTaker {
     ghost invariant = { IsHeldTaker };
 }
 
-/// A floor over words that count nobody, which lie side by side (0) or apart, and its first taker, with all names.
-///
-/// # Errors
-/// The words, if a growth was refused.
-fn lay(
-    alloc: Global,
-    words: Words<'static>,
-    apart: u32,
-) -> Result<(Floor<'static>, Taker), Words<'static>>
-    requires zero { (client_count words ≡ 0) × (words.stride ≡ 1) }
-    ensures start { IfOk result (λ r. (r.0.start.network ≡ words.entry.network)
-        × (r.0.start.quota ≡ MOST_TAKEN) × (base r.0.start ≡ 0)) }
-    ensures taker { IfOk result (λ r. r.1 ≡ empty_taker r.0 MOST_TAKEN) }
-    ensures spaced { IfOk result (λ r. LieBy apart r.1) }
-{
-    if apart == 0 {
-        open_for_takers(alloc, words, MOST_TAKEN)
-    } else {
-        open_for_takers(alloc, words.apart(), MOST_TAKEN)
-    }
-}
-
 impl HeldTaker {
     /// The first taker of a floor over a network, whose words lie side by side (0) or apart, with all names.
     ///
@@ -79,7 +55,12 @@ impl HeldTaker {
     {
         let network = Arc::new(alloc, network)?;
         let words = Words::zero_shared(alloc, &network)?;
-        let Ok((floor, taker)) = lay(alloc, words, apart) else {
+        let opened = if apart == 0 {
+            open_for_takers(alloc, words, MOST_TAKEN)
+        } else {
+            open_for_takers(alloc, words.apart(), MOST_TAKEN)
+        };
+        let Ok((floor, taker)) = opened else {
             return Err(Refusal::Memory);
         };
         let floor = Arc::new(alloc, floor)?;

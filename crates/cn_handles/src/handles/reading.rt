@@ -18,10 +18,7 @@ pub fn list_size(held: &Held, which: RecordList) -> Result<u64, Refusal>
         WithRecord (record_held held.now) (λ r. n ≡ length (list_of which r))) }
     ensures refused { IfErr result (NotThere (record_held held.now)) }
 {
-    match held.record() {
-        Ok(closed) => Ok(closed.list(which).len() as u64),
-        Err(refusal) => Err(refusal),
-    }
+    Ok(held.record()?.list(which).len() as u64)
 }
 
 /// Copies a list of the record.
@@ -33,10 +30,7 @@ pub fn copy_list(held: &Held, which: RecordList, to: &mut [u64]) -> Result<(), R
     ensures err { OnErr result (to.new ≡ to.old) }
     ensures refused { IfErr result (NotCopied (record_held held.now) which (length to.old)) }
 {
-    let list = match held.record() {
-        Ok(closed) => closed.list(which),
-        Err(refusal) => return Err(refusal),
-    };
+    let list = held.record()?.list(which);
     if list.len() != to.len() {
         return Err(Refusal::Size);
     }

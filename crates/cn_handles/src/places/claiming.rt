@@ -1,16 +1,17 @@
 //! Lanes that are taken back, and places that are claimed for new ones. The row with number n has 16 * 2^n places, and
 //! stays once it is made.
 
-ghost use Rattle.std.specs.Prelude.{◌<◌, IfErr, IfOk};
+ghost use Rattle.std.specs.Prelude.{IfErr, IfOk};
 ghost use Rattle.cn_handles.specs.Looking.{IsNoneBack, IsTakenOf};
 ghost use Rattle.cn_handles.specs.Placing.{IsPlaceOf};
 
 use super::{FloorWithPlaces, ROWS};
 use crate::places::place::Place;
-use crate::places::reading_rows::{is_free, make_row};
+use crate::places::reading_rows::make_row;
 use crate::places::row::{Row, SharedRow};
 use crate::places::searches::{MOST_SEARCHES, NoneBack};
 use crate::places::taken::Taken;
+use counted_slot::FREE;
 use std::alloc::{AllocError, Global};
 use std::sync::Arc;
 
@@ -40,21 +41,6 @@ impl FloorWithPlaces {
         Err(NoneBack::Late(search))
     }
 
-    /// Makes a row, if it was not made.
-    ///
-    /// # Errors
-    /// `AllocError` if it gets no memory.
-    fn make(&self, alloc: Global, at: usize) -> Result<(), AllocError>
-        requires { at < 26 }
-    {
-        if is_free(self, at) {
-            let size = FIRST_ROW << at;
-            let row = Arc::new(alloc, Row::new(alloc, &self.floor, size)?)?;
-            make_row(self, at, SharedRow { row });
-        }
-        Ok(())
-    }
-
     /// A free place for a lane, which is then its own. If there is none, a row is made.
     ///
     /// # Errors
@@ -66,7 +52,11 @@ impl FloorWithPlaces {
             if let Some(place) = self.search_free() {
                 return Ok(place);
             }
-            self.make(alloc, at)?;
+            if self.slot(at).row.load() == FREE {
+                let size = FIRST_ROW << at;
+                let row = Arc::new(alloc, Row::new(alloc, &self.floor, size)?)?;
+                make_row(self, at, SharedRow { row });
+            }
         }
         Err(AllocError)
     }

@@ -40,42 +40,6 @@ pub(crate) fn record_lists(
     }
 }
 
-impl FloorWithPlaces {
-    /// Closes the floor by a lane that has the whole of its quota, spent or not, and nobody inside. Lanes that were
-    /// handed back have nothing of it, and are let go.
-    ///
-    /// # Errors
-    /// `NoMemory` if it gets none, and all as it was.
-    pub(crate) fn close(
-        self,
-        lane: Lane,
-    ) -> Result<Quiet<'static>, (NoMemory, FloorWithPlaces, Lane)>
-        requires own { lane.home ≡ self }
-        requires out { tokens_in lane.yard.lists ≡ 0 }
-        requires all { lane.view.quota + length lane.view.grants ≡ lane.home.start.quota }
-        ensures ok { IfOk result (λ quiet. (quiet.start ≡ self.start) × (quiet.did ≡ lane.view)) }
-        ensures err { IfErr result (λ back. (back.1 ≡ self) × (back.2 ≡ lane)) }
-    {
-        let FloorWithPlaces {
-            floor,
-            slots,
-            returns,
-        } = self;
-        match floor.close(lane) {
-            Ok(quiet) => Ok(quiet),
-            Err(CloseFault::StillWalking(floor, lane) | CloseFault::Memory(floor, lane)) => {
-                let floor = FloorWithPlaces {
-                    floor,
-                    slots,
-                    returns,
-                };
-                Err((NoMemory { error: AllocError }, floor, lane))
-            }
-            Err(CloseFault::LanesMissing { .. }) => unreachable!(),
-        }
-    }
-}
-
 /// A floor has other owners.
 #[derive(Drop)]
 pub(crate) struct OtherOwners {
@@ -112,7 +76,8 @@ impl CloseStop {
     }
 }
 
-/// Closes the floor by a lane that has the whole of its quota, spent or not, and nobody inside, and takes it out.
+/// Closes the floor by a lane that has the whole of its quota, spent or not, and nobody inside, and takes it out. Lanes
+/// that were handed back have nothing of it, and are let go.
 ///
 /// # Errors
 /// `LanesThere` if there are other owners, and `Memory`, with all as it was.
@@ -133,14 +98,26 @@ pub(crate) fn close_share(
     let Some(slot) = Arc::get_mut(share) else {
         return Err((CloseStop::LanesThere(OtherOwners { lists }), lane));
     };
-    let Some(floor) = slot.take() else {
+    let Some(places) = slot.take() else {
         unreachable!()
     };
+    let FloorWithPlaces {
+        floor,
+        slots,
+        returns,
+    } = places;
     match floor.close(lane) {
         Ok(quiet) => Ok((quiet, lists)),
-        Err((none, floor, lane)) => {
-            *slot = Some(floor);
-            Err((CloseStop::Memory(none), lane))
+        Err(CloseFault::Memory(floor, lane)) => {
+            let back = FloorWithPlaces {
+                floor,
+                slots,
+                returns,
+            };
+            *slot = Some(back);
+            Err((CloseStop::Memory(NoMemory { error: AllocError }), lane))
         }
+        Err(CloseFault::StillWalking(..)) => unreachable!(),
+        Err(CloseFault::LanesMissing { .. }) => unreachable!(),
     }
 }

@@ -1,16 +1,14 @@
 //! Places for lanes that are handed back: each lane has one of its own from its split on.
 
 ghost use Rattle.std.specs.Arc.{arc_value};
-ghost use Rattle.std.specs.Prelude.{◌≡◌, ◌<◌, Some, IfErr, IfOk, IsSomeAnd};
+ghost use Rattle.std.specs.Prelude.{◌≡◌, IsSomeAnd};
 ghost use Rattle.cn_handles.specs.Handles.{back_held};
-ghost use Rattle.cn_handles.specs.Placing.{IsNotIn, IsPlaceOf, IsPut};
 ghost use Rattle.cn_handles.specs.Returns.{IsBack};
 
 use crate::handles::box_pointer::BoxPointer;
 use crate::places::kept::Kept;
 use crate::places::row::{Row, SharedRow};
-use crate::places::turns::{Put, Unturned, free_place, put_at};
-use cn_floor::{Floor, Lane};
+use cn_floor::Floor;
 use counted_slot::Fits;
 use std::alloc::Global;
 
@@ -25,9 +23,8 @@ impl PlaceBox {
     pub(crate) fn of(boxed: Box<Kept>) -> PlaceBox
         ensures { result.boxed.value ≡ boxed.value }
     {
-        PlaceBox {
-            boxed: BoxPointer::of(boxed),
-        }
+        let boxed = BoxPointer::of(boxed);
+        PlaceBox { boxed }
     }
 
     /// The box again.
@@ -84,34 +81,6 @@ impl Place {
         ensures { result.now ≡ arc_value self.now.shared.row }
     {
         &self.shared.row
-    }
-
-    /// Puts a lane there, in this box: by a load, a compare-exchange and a store, whatever other threads do.
-    ///
-    /// # Errors
-    /// The lane, in its box, if the place was not its owner's own, which no call makes it.
-    pub(crate) fn put(
-        self,
-        floor: &Floor<'static>,
-        lane: Lane,
-        boxed: Box<Kept>,
-    ) -> Result<Put, (Unturned, Box<Kept>)>
-        requires place { IsPlaceOf floor.now self }
-        requires lane { IsBack floor.now lane }
-        ensures ok { IfOk result (IsPut lane) }
-        ensures err { IfErr result (λ r. IsNotIn self.spot 2 r.0 × (back_held r.1.value ≡ Some lane)) }
-    {
-        let put = put_at(&self, floor, lane, boxed);
-        self.go_with_floor();
-        put
-    }
-
-    /// Lets it go, for the lane of another split.
-    pub(crate) fn free(self, floor: &Floor<'static>)
-        requires { IsPlaceOf floor.now self }
-    {
-        free_place(&self, floor);
-        self.go_with_floor();
     }
 
     /// Lets it go: with its floor, or once it is put to use or freed.

@@ -2,7 +2,7 @@
 //! exchange, and nothing copies one.
 
 ghost use Rattle.std.specs.Arc.{arc_value};
-ghost use Rattle.std.specs.Prelude.{◌≡◌, ◌<◌, ◌≤◌, IfErr, IfOk, length};
+ghost use Rattle.std.specs.Prelude.{◌≡◌, ◌<◌, IfErr, IfOk, length};
 ghost use Rattle.cn_handles.specs.Looking.{IsNoRow};
 ghost use Rattle.cn_handles.specs.Placing.{IsPlaceOf, IsSharedRowOf, row_size};
 
@@ -51,10 +51,8 @@ impl ReadRow {
     pub(crate) fn spot(&self, place: usize) -> Spot
         ensures { result ≡ record { row = self.now.at; place = place } }
     {
-        Spot {
-            row: self.at,
-            place,
-        }
+        let row = self.at;
+        Spot { row, place }
     }
 
     /// One of its places, for its taker.
@@ -109,13 +107,6 @@ pub(crate) fn read_row(floor: &FloorWithPlaces, at: usize) -> Result<ReadRow, Un
         seen.word = found;
     }
     Err(seen)
-}
-
-/// Whether a row was not made.
-pub(crate) fn is_free(floor: &FloorWithPlaces, at: usize) -> bool
-    requires { at < 26 }
-{
-    floor.slot(at).row.load() == FREE
 }
 
 /// Makes a row, unless another thread made it.

@@ -49,10 +49,7 @@ pub(crate) fn group_size(level: u32) -> usize
     ensures size { result ≡ 64 ^ level }
     ensures some { (0 < result) × (result ≤ 4096) }
 {
-    match level {
-        1 => 64,
-        _ => 4_096,
-    }
+    if level == 1 { 64 } else { 4_096 }
 }
 
 /// What a place counts in a group of so many: its bit, if they are 64 at most, or one.
@@ -116,11 +113,7 @@ impl Row {
             × (group < length self.now.groups.items)) }
     {
         let group = (self.places.len() + at) / group_size(level);
-        if group > 1 && group < self.groups.len() {
-            Some(group)
-        } else {
-            None
-        }
+        (group > 1 && group < self.groups.len()).then_some(group)
     }
 
     /// What a place counts in the whole row.
@@ -199,8 +192,7 @@ impl SharedRow {
     pub(crate) fn another_owner(&self) -> Result<SharedRow, AllocError>
         ensures { IfOk result (λ other. arc_value other.row ≡ arc_value self.now.row) }
     {
-        Ok(SharedRow {
-            row: Arc::try_clone(&self.row)?,
-        })
+        let row = Arc::try_clone(&self.row)?;
+        Ok(SharedRow { row })
     }
 }

@@ -99,16 +99,14 @@ impl EmptyGroup {
         if at % size != 0 || at >= row.places.len() {
             return self;
         }
-        match row.group(level, at) {
-            Some(group) => {
-                let (groups, number) = row.uncounted(group, self.state);
-                EmptyGroup {
-                    size: self.size + groups * size,
-                    number,
-                    ..self
-                }
-            }
-            None => self,
+        let Some(group) = row.group(level, at) else {
+            return self;
+        };
+        let (groups, number) = row.uncounted(group, self.state);
+        EmptyGroup {
+            size: self.size + groups * size,
+            number,
+            ..self
         }
     }
 
@@ -236,31 +234,25 @@ impl Search {
     }
 
     /// Passes a row that cannot be read.
-    pub(crate) fn pass_unread(self, none: Unread) -> Search
+    pub(crate) fn pass_unread(mut self, none: Unread) -> Search
         requires none { IsNoRow self.on.row none }
         requires few { self.on.row + 1 < 2 ^ 64 }
         ensures { result ≡ record self { on = record { row = self.on.row + 1; place = 0 } } }
     {
         drop(none);
-        self.next_row()
+        self.on.row += 1;
+        self.on.place = 0;
+        self
     }
 
     /// Ends a row of which it passed all places.
-    pub(crate) fn end_row(self, row: ReadRow) -> Search
+    pub(crate) fn end_row(mut self, row: ReadRow) -> Search
         requires row { row.at ≡ self.on.row }
         requires all { length (arc_value row.shared.row).places.items ≤ self.on.place }
         requires few { self.on.row + 1 < 2 ^ 64 }
         ensures { result ≡ record self { on = record { row = self.on.row + 1; place = 0 } } }
     {
         drop(row);
-        self.next_row()
-    }
-
-    /// Goes on to the first place of the next row.
-    fn next_row(mut self) -> Search
-        requires { self.on.row + 1 < 2 ^ 64 }
-        ensures { result ≡ record self { on = record { row = self.on.row + 1; place = 0 } } }
-    {
         self.on.row += 1;
         self.on.place = 0;
         self
@@ -281,11 +273,10 @@ impl Search {
             return Ok(NoneBack::Searched(self, now));
         }
         Err(Search {
-            state: self.state,
             on: Spot { row: 0, place: 0 },
-            found: 0,
             returns: now,
             earlier: self.earlier + 1,
+            ..self
         })
     }
 }

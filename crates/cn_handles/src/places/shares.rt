@@ -21,8 +21,5 @@ pub(crate) struct Full {
 pub(crate) fn another_share(share: &FloorShare) -> Result<FloorShare, Full>
     ensures { IfOk result (λ other. arc_value other ≡ arc_value share.now) }
 {
-    match Arc::try_clone(share) {
-        Ok(other) => Ok(other),
-        Err(error) => Err(Full { error }),
-    }
+    Arc::try_clone(share).map_err(|error| Full { error })
 }

@@ -117,18 +117,14 @@ impl Taken {
     }
 
     /// Lets it go, which has nothing, with its box.
-    pub(crate) fn let_go(self, gone: LetGo) -> LetGo
+    pub(crate) fn let_go(self, mut gone: LetGo) -> LetGo
         requires nothing { (self.lane.value.view.quota ≡ 0) × (length self.lane.value.view.grants ≡ 0) }
         requires few { gone.number + 1 < 2 ^ 64 }
         ensures { result.number ≡ gone.number + 1 }
     {
-        let Taken {
-            lane: _lane,
-            boxed: _boxed,
-        } = self;
-        LetGo {
-            number: gone.number + 1,
-        }
+        let (_lane, _boxed) = self.into_lane();
+        gone.number += 1;
+        gone
     }
 
     /// The lane whole, in its box, with a share of its floor.

@@ -136,49 +136,51 @@ pub(crate) fn take_from(
     ensures err { IfErr result (IsNotIn (record { row = row.now.at; place = place }) state) }
 {
     let spot = row.spot(place);
-    match turn_place(row.row(), spot, state, floor) {
-        Ok(claim) => match claim.put(None, MARKED) {
-            None if state == PRESENT => Err(Unturned { spot, word: MARKED }),
-            there => Ok(Found { state, there }),
-        },
-        Err(other) => Err(other),
+    match turn_place(row.row(), spot, state, floor)?.put(None, MARKED) {
+        None if state == PRESENT => Err(Unturned { spot, word: MARKED }),
+        there => Ok(Found { state, there }),
     }
 }
 
-/// Frees a place that is its owner's own.
-pub(crate) fn free_place(place: &Place, floor: &Floor<'static>)
-    requires { IsPlaceOf floor.now place.now }
-{
-    if let Ok(claim) = turn_place(place.row(), place.spot(), MARKED, floor) {
-        let _ = claim.put(None, FREE);
+impl Place {
+    /// Puts a lane there, in this box: by a load, a compare-exchange and a store, whatever other threads do.
+    ///
+    /// # Errors
+    /// The lane, in its box, if the place was not its owner's own (`MARKED`), which no call makes it.
+    pub(crate) fn put(
+        self,
+        floor: &Floor<'static>,
+        lane: Lane,
+        mut boxed: Box<Kept>,
+    ) -> Result<Put, (Unturned, Box<Kept>)>
+        requires place { IsPlaceOf floor.now self }
+        requires lane { IsBack floor.now lane }
+        ensures ok { IfOk result (IsPut lane) }
+        ensures err { IfErr result (λ r. IsNotIn self.spot 2 r.0 × (back_held r.1.value ≡ Some lane)) }
+    {
+        let put = Put {
+            lane: Snapshot::of(&lane),
+            word: PRESENT,
+        };
+        *boxed = Held::Back(lane);
+        let turned = match turn_place(self.row(), self.spot(), MARKED, floor) {
+            Ok(claim) => {
+                let _ = claim.put(Some(PlaceBox::of(boxed)), PRESENT);
+                Ok(put)
+            }
+            Err(other) => Err((other, boxed)),
+        };
+        self.go_with_floor();
+        turned
     }
-}
 
-/// Puts a lane, in this box, at a place that is its own (`MARKED`).
-///
-/// # Errors
-/// The lane, in the box, if the place was not its own.
-pub(crate) fn put_at(
-    place: &Place,
-    floor: &Floor<'static>,
-    lane: Lane,
-    mut boxed: Box<Kept>,
-) -> Result<Put, (Unturned, Box<Kept>)>
-    requires place { IsPlaceOf floor.now place.now }
-    requires lane { IsBack floor.now lane }
-    ensures ok { IfOk result (IsPut lane) }
-    ensures err { IfErr result (λ r. IsNotIn place.now.spot 2 r.0 × (back_held r.1.value ≡ Some lane)) }
-{
-    let put = Put {
-        lane: Snapshot::of(&lane),
-        word: PRESENT,
-    };
-    *boxed = Held::Back(lane);
-    match turn_place(place.row(), place.spot(), MARKED, floor) {
-        Ok(claim) => {
-            let _ = claim.put(Some(PlaceBox::of(boxed)), PRESENT);
-            Ok(put)
+    /// Lets it go, for the lane of another split.
+    pub(crate) fn free(self, floor: &Floor<'static>)
+        requires { IsPlaceOf floor.now self }
+    {
+        if let Ok(claim) = turn_place(self.row(), self.spot(), MARKED, floor) {
+            let _ = claim.put(None, FREE);
         }
-        Err(other) => Err((other, boxed)),
+        self.go_with_floor();
     }
 }

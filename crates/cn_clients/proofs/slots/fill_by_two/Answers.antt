@@ -11,14 +11,14 @@ fill_in_threads-filled-requires-clause-out g c _ _ = (
 
 pub returns : goal.returns
 returns g c =
-    let filled = c.in-Some.ensures in
+    let filled = c.in_ok-lane.ensures in
     let none : c.split_off.new.lane.view.grants ≡ [] = ap (λ (l : LaneValue). l.view.grants) c.in-Ok.ensures.first ∙ c.requires.fresh in
     let none' : c.in-Ok.other.view.grants ≡ [] = ap (λ (l : LaneValue). l.view.grants) c.in-Ok.ensures.second in
     let joined = ap (λ (l : LaneValue). l.view.grants) c.in-Ok-join.ensures.ok in
     let did = ap (λ (v : View). v.grants) c.in-Ok-close.ensures.quiet.1 in
     record {
       all = (filled.0.all, filled.1.all);
-      full = all-filled _ _ _ _ _ _ _ c.in-Some.one.items c.in-Some.two.items _ none none' filled.0 filled.1 (did ∙ joined)
+      full = all-filled _ _ _ _ _ _ _ _ _ _ none none' filled.0 filled.1 (did ∙ joined)
           c.quiet_laws.ensures.closed.names;
       own = (filled.0.own, filled.1.own);
     }

@@ -20,12 +20,7 @@ fn all_enter(clients: &[Client], entries: u64) -> bool
     ensures yes { IsTrue result → All (λ c. c.entry < entries) clients.now }
     ensures no { result ≡ false → ¬ All (λ c. c.entry < entries) clients.now }
 {
-    for client in clients {
-        if client.entry >= entries {
-            return false;
-        }
-    }
-    true
+    clients.iter().all(|client| client.entry < entries)
 }
 
 /// How many clients who come in by one entry go on together at most.

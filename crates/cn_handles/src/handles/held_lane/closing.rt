@@ -1,13 +1,12 @@
 //! A lane closes its floor.
 
 ghost use Rattle.std.specs.Prelude.{◌≡◌, ◌≢◌, ◌+◌, Some, false, length, IfErr, IfOk, IsTrue};
-ghost use Rattle.cn_yard.specs.Lists.{tokens_in};
 ghost use Rattle.cn_handles.specs.Calls.{IsClosedBy};
-ghost use Rattle.cn_handles.specs.Closing.{HaveLengths, StopsClose, refusal_of_close};
+ghost use Rattle.cn_handles.specs.Closing.{StopsClose, refusal_of_close};
 ghost use Rattle.cn_handles.specs.Refusals.{NotClosed};
 
 use super::HeldLane;
-use crate::handles::floor_record::{FloorRecord, RecordLists};
+use crate::handles::floor_record::FloorRecord;
 use crate::places::{CloseStop, close_share, floor_of, record_lists};
 use std::alloc::Global;
 
@@ -21,35 +20,6 @@ impl HeldLane {
     {
         let granted = self.lane.grants().len() as u64;
         granted <= self.most && self.lane.quota() == self.most - granted
-    }
-
-    /// Closes the floor, for its record in these lists.
-    ///
-    /// # Errors
-    /// `LanesThere` if other lanes are, and `Memory`, with the lane as it was.
-    fn close_into(self, lists: RecordLists) -> Result<FloorRecord, (CloseStop, HeldLane)>
-        requires out { tokens_in self.yard.lists ≡ 0 }
-        requires all { self.view.quota + length self.view.grants ≡ self.home.start.quota }
-        requires lists { HaveLengths self.home.start.network.table.width (length self.view.grants) lists }
-        ensures ok { IfOk result (IsClosedBy self) }
-        ensures err { IfErr result (λ r. r.1 ≡ self) }
-        ensures stop { IfErr result (λ r. StopsClose (Some self) r.0) }
-        ensures refused { IfErr result (λ r. NotClosed (Some self) (refusal_of_close r.0)) }
-    {
-        let HeldLane {
-            mut floor,
-            lane,
-            most,
-            place,
-        } = self;
-        match close_share(&mut floor, lane, lists) {
-            Ok((quiet, lists)) => {
-                place.go_with_floor();
-                quiet.quiet_laws();
-                Ok(FloorRecord::of(quiet, lists))
-            }
-            Err((stop, lane)) => Err((stop, HeldLane::of(floor, lane, most, place))),
-        }
     }
 
     /// Closes the floor.
@@ -70,7 +40,22 @@ impl HeldLane {
         }
         let width = floor_of(&self.floor).network().width() as usize;
         match record_lists(alloc, width, self.lane.grants().len()) {
-            Ok(lists) => self.close_into(lists),
+            Ok(lists) => {
+                let HeldLane {
+                    mut floor,
+                    lane,
+                    most,
+                    place,
+                } = self;
+                match close_share(&mut floor, lane, lists) {
+                    Ok((quiet, lists)) => {
+                        place.go_with_floor();
+                        quiet.quiet_laws();
+                        Ok(FloorRecord::of(quiet, lists))
+                    }
+                    Err((stop, lane)) => Err((stop, HeldLane::of(floor, lane, most, place))),
+                }
+            }
             Err(none) => Err((CloseStop::Memory(none), self)),
         }
     }

@@ -59,9 +59,7 @@ impl TakeStop {
     {
         match self {
             TakeStop::Nothing => Refusal::Nothing,
-            TakeStop::NothingBack(_) | TakeStop::Full(_) | TakeStop::Late(_) => {
-                Refusal::NothingBack
-            }
+            _ => Refusal::NothingBack,
         }
     }
 }
@@ -150,10 +148,7 @@ impl HeldLane {
         ensures stop { IfErr result StopsTake }
         ensures refused { IfErr result (λ s. NotTakenBack (Some self.now) (refusal_of_take s)) }
     {
-        let floor = match another_share(&self.floor) {
-            Ok(floor) => floor,
-            Err(full) => return Err(TakeStop::Full(full)),
-        };
+        let floor = another_share(&self.floor).map_err(TakeStop::Full)?;
         let mut gone = LetGo::none();
         for met in 0..MOST_JOINS {
             match with_places(&self.floor).take_back() {

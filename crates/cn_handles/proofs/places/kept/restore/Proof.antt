@@ -1,27 +1,12 @@
 -- `restore` keeps the pointer, as `retype` does.
-use Rattle.cn_handles.proofs.Common.{◌≡◌, ℕ, List, [], ◌∷◌, ◌++◌, refl, sym, subst, Ura, Val, vptr, SProp, ent, emp, id⊢, WpFn, fact, fact_i, tables, Logic, sem, ‵, raw, ◌⊛◌, ◌$◌, ◌∵◌, !, qed, by, move, keep, use0, use1, split, suffices, rewrite, fsplit, fjoin, agg, sub, whole, stop, fld, of_opd, no_more, and_then, returns, enter, alloc_all, pass_all, free_all, look_at, get, get_in, sets, part_of, RattleType, owns, block_ptr, types_at, plain, nothing, heard, alive, Stays, stay_dropped, walk_of, Goes-blank, ghosts, box_owns, proved_at, leaves, Nothing}
+use Rattle.cn_handles.proofs.Common.{◌≡◌, List, [], ◌∷◌, ◌++◌, refl, sym, subst, Val, vptr, SProp, ent, emp, id⊢, WpFn, fact, fact_i, tables, ‵, raw, ◌⊛◌, ◌$◌, ◌∵◌, !, qed, by, move, keep, use0, use1, split, suffices, rewrite, fsplit, fjoin, agg, sub, whole, stop, fld, of_opd, no_more, and_then, returns, enter, alloc_all, pass_all, free_all, look_at, get, get_in, sets, RattleType, owns, block_ptr, types_at, plain, nothing, heard, alive, Stays, stay_dropped, walk_of, Goes-blank, ghosts, box_owns, proved_at, leaves, Nothing}
 use Rattle.std.proofs.alloc.Global.TheLaws as heap_laws
 use Rattle.cn_handles.proofs.Loosened.{both, BoxPointer, loose_good, loose_in, loose_out}
-use Rattle.cn_handles.proofs.Values.{Z, R}
-use Rattle.cn_handles.specs.contracts.handles.floor_record.FloorRecord as floor_record
-use Rattle.cn_handles.specs.contracts.handles.held.Held as held
-use Rattle.cn_handles.specs.contracts.handles.held_taker.HeldTaker as held_taker
-use Rattle.cn_handles.specs.contracts.places.kept.LaneLayout as unshared
+use Rattle.cn_handles.proofs.Values.{K, R, Z, lies_alike}
 use Rattle.cn_handles.specs.contracts.places.kept.restore.{ended, clauses}
 use Rattle.cn_handles.specs.contracts.places.kept.restore.Key.{name as #self}
 use Rattle.cn_handles.proofs.places.kept.restore.Statement.{statement}
 use Rattle.cn_handles.proofs.places.kept.restore.Code as code
-
--- what the box may have then
-abbrev K : RattleType
-K = held.the_row unshared.the_row floor_record.the_row held_taker.the_row
-
--- nothing, in a box of one type, is nothing in a box of the other: both have the same cells, and own nothing there
-lies_alike : {M : Type 1} {𝓤 : Ura M} (𝓛 : Logic 𝓤) (a : Z.Denot) (b o : ℕ)
-    → ent 𝓤 (sem 𝓛 (box_owns (ghosts.dealloc_token a) K (block_ptr b o) Nothing))
-    (sem 𝓛 (box_owns (ghosts.dealloc_token a) R (block_ptr b o) Nothing))
-unfolding part_of
-lies_alike {𝓤 = 𝓤} 𝓛 a b o = id⊢ 𝓤 (sem 𝓛 (box_owns (ghosts.dealloc_token a) K (block_ptr b o) Nothing))
 
 abbrev Same : R.Denot → R.Denot → Type 0
 Same x y = x ≡ y
@@ -41,7 +26,7 @@ restore_spec 𝓤 𝓛 𝓜 𝓡 wired =
     split ! $ move ! (1 ∷ []) $ fsplit ! $ loose_out K Z LZ ghosts ! v z.0.4.0 (λ b o h e ws fits.
     let w : Val = both (vptr b o) h in let typed = loose_good K Z LZ ghosts b o h fits in
     rewrite ! 0 (λ (x : K.Denot). ‵ (box_owns (ghosts.dealloc_token a) K (block_ptr b o) x)) nothing_there refl $
-    use1 𝓛 (‵ (box_owns (ghosts.dealloc_token a) R (block_ptr b o) Nothing)) (lies_alike 𝓛 a b o) $
+    use1 𝓛 (‵ (box_owns (ghosts.dealloc_token a) R (block_ptr b o) Nothing)) (lies_alike 𝓛 a b o).1 $
     suffices ! (Run (w ∷ [])) (subst (λ (us : List Val). ent 𝓤 (Run (w ∷ [])) (Run us)) (sym (λ i. ws i ++ [])) (id⊢ 𝓤 (Run (w ∷ [])))) $
     enter ! 𝓣.C 𝓣.Λ fn (w ∷ []) Post $ alloc_all ! (λ l. pass_all ! refl (typed, tt) $
     sets ! (of_opd ! (get_in ! (fld ! refl (stop !)) (sub ! 0 refl (whole !)))) refl (tt, tt) $

@@ -1,15 +1,7 @@
 -- A box as its pointer may cross threads, as the box may.
 use mir.Raw.{raw}
-use Rattle.cn_handles.proofs.Common.{full_share, Keyless, Exit, unchanged, hidden, under, lone, RattleType, Ptr, block_ptr, null_ptr, lies_at, IsSend, AllSend, Frees, Quiet, part_keyless, owning_send, struct_send, sendable, exits_of, shape, fields, to, Ghosts, the_row, the_type}
-use denote.Exit.{leaves}
-
-quiet : {D X : Type 0} (to : D → X) (e : Exit X) → Quiet e → Quiet (hidden (under to e))
-quiet to unchanged q = λ x w. tt
-quiet to (leaves L l S s r₀) q = λ d. q (to d)
-
-lies : (R : RattleType) → IsSend R → (p : Ptr) (x : R.Denot) → Keyless (lies_at R full_share p x)
-lies R s (block_ptr b o) x = part_keyless R s full_share x b o
-lies R s null_ptr x = tt
+use Rattle.cn_handles.proofs.Common.{lone, RattleType, IsSend, AllSend, Frees, owning_send, struct_send, sendable, exits_of, shape, fields, to, Ghosts, the_row, the_type}
+use Rattle.cn_handles.proofs.Loosened.{lies, quiet}
 
 pub send : (T A : RattleType) (g : Ghosts A.Denot) → IsSend T → IsSend A → Frees g g.dealloc_token → IsSend (the_row T A g)
 send T A g s a f =

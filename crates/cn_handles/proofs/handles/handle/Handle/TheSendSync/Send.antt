@@ -1,24 +1,16 @@
 -- A handle may cross threads, as what it holds may.
-use Rattle.cn_handles.proofs.Common.{Option, None, Some, full_share, Keyless, Exit, unchanged, hidden, under, RattleType, lone, Ptr, block_ptr, null_ptr, lies_at, IsSend, AllSend, Quiet, part_keyless, owning_send, struct_send, sendable, exits_of, shape, fields, to, holds}
+use Rattle.cn_handles.proofs.Common.{Option, None, Some, Keyless, lone, Ptr, IsSend, AllSend, owning_send, struct_send, sendable, exits_of, shape, fields, to, holds}
 use mir.Raw.{raw}
-use denote.Exit.{leaves}
 use Rattle.std.specs.declared.alloc.Global.{Global}
 use Rattle.std.proofs.alloc.Global.TheSendSync as heap
 use Rattle.std.proofs.Crossing.{frees}
 use Rattle.cn_handles.specs.Holding as held
+use Rattle.cn_handles.proofs.Loosened.{lies, quiet}
 use Rattle.cn_handles.proofs.handles.floor_record.FloorRecord.TheSendSync as record_crosses
 use Rattle.cn_handles.proofs.handles.held.Held.TheSendSync as held_crosses
 use Rattle.cn_handles.proofs.handles.held_lane.HeldLane.TheSendSync as lane_crosses
 use Rattle.cn_handles.proofs.handles.held_taker.HeldTaker.TheSendSync as taker_crosses
 use Rattle.cn_handles.specs.contracts.handles.handle.Handle.{the_row, the_type}
-
-quiet : {D X : Type 0} (to : D → X) (e : Exit X) → Quiet e → Quiet (hidden (under to e))
-quiet to unchanged q = λ x w. tt
-quiet to (leaves L l S s r₀) q = λ d. q (to d)
-
-lies : (R : RattleType) → IsSend R → (p : Ptr) (x : R.Denot) → Keyless (lies_at R full_share p x)
-lies R s (block_ptr b o) x = part_keyless R s full_share x b o
-lies R s null_ptr x = tt
 
 held_keyless : (a : Global) (p : Ptr) (x : Option (held.the_row).Denot) → Keyless (holds held.the_row a p x)
 held_keyless a p None = tt
