@@ -1,7 +1,10 @@
--- What a run has written, by what was asked of it.
-use Rattle.cn_renamer.proofs.Common.{◌≡◌, arith, ℕ, inl, inr, List, Option, is_some, known-map, written-map, HasWritten, Written, IsRunInOrder, IsRunInOrderOfKnown, IsRunOf, IsRunOfKnown, IsTextOf, walkers, walkers_asked}
+-- What words ask for, and what a run has written by what was asked of it.
+use Rattle.cn_renamer.proofs.Common.{◌≡◌, arith, ℕ, inl, inr, List, Option, is_some, known-map, written-map, HasWritten, Written, IsRunInOrder, IsRunInOrderOfKnown, IsRunOf, IsRunOfKnown, IsTextOf, walkers, walkers_asked, IsBuiltFor}
 use Rattle.std.proofs.lemmas.Bool.{cases_eq}
 use Rattle.cn_cli.specs.Options.{Settings}
+use Rattle.clap.specs.Words.{Row, Text}
+use Rattle.cn_cli.specs.Words.{Asks, IsJobOf}
+use Rattle.cn_cli.specs.declared.words.Job.{Job}
 use Rattle.cn_cli.specs.declared.words.Job.TheVariants as job
 
 -- a gate makes all workers walk each epoch, and without one one does
@@ -32,3 +35,10 @@ run-as-asked contents old new options known written ran ordered =
                 (run, λ _ _. is)) (ordered one hand)
           ]
     ]
+
+-- a job that words ask for has a width that networks are built of
+built-for : (asked : Option (Text × List Row)) (job : Job) → Asks asked job → IsBuiltFor job
+built-for asked job asks = grind arith
+
+pub is-built : (words : List Text) (job : Job) → IsJobOf words job → IsBuiltFor job
+is-built words job asks = built-for _ job asks.1

@@ -1,6 +1,5 @@
 mod Common
 pub mod Asked
-pub mod Built
 pub mod Floors
 pub mod Kept
 pub mod Refused

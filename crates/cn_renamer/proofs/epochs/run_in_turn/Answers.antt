@@ -9,8 +9,7 @@ loop-epoch-init g c = record {
   runner = ap (runner_after c.args.first) (sym c.none-receipts.ensures);
   at = search rules;
   places = c.requires.epochs.all;
-  walked = subst (λ (floors : List QuietValue). HaveWalked c.args.crew c.args.first [] floors []) (sym c.none-receipts.ensures)
-      (none-walked c.args.crew c.args.first);
+  walked = rw c.none-receipts.ensures (none-walked c.args.crew c.args.first);
 }
 
 pub loop-epoch-preserved : goal.loop-epoch-preserved
@@ -29,8 +28,7 @@ loop-epoch-preserved g c =
     let more : clients_of_epochs (take i epochs) + length epoch.clients.items ≡ clients_of_epochs (take (i + 1) epochs) =
     sym (sum_by_push (λ (e : BatchEpoch). length e.clients.items) (take i epochs) epoch) ∙ ap clients_of_epochs front in
     let all = sum_by-take-le (λ (e : BatchEpoch). length e.clients.items) epochs (i + 1) in
-    let one : HaveWalked c.args.crew (runner_after runner receipts) (epoch ∷ []) receipt own =
-    subst (λ (r : RunnerValue). HaveWalked c.args.crew r (epoch ∷ []) receipt own) before.runner c.in_ok-next.ensures.walked in
+    let one = rw before.runner at c.in_ok-next.ensures.walked in
     let many : length own ≡ length epoch.clients.items = many-held c.args.crew (runner_after runner receipts) epoch receipt own one in
     let fits : at + length own ≤ length old = omega (arith, before.at, before.places, more, many, all) in
     let put : List ℕ = put_mid at (at + c.len.result - at) old own in
@@ -55,8 +53,7 @@ loop-epoch-preserved g c =
             length-take-le (at + c.len.result - at) (drop at old) (omega (arith, c.len.ensures, many, fits, length-drop at old)),
           ))
           ∙ before.places;
-      walked = subst (λ (z : List BatchEpoch × List QuietValue × List ℕ). HaveWalked c.args.crew runner z.0 z.1 z.2)
-          (λ x. (front x, sym c.append-receipts.ensures x, sym written x)) both;
+      walked = rw (← front, c.append-receipts.ensures, written) both;
     }
 
 pub serve_epoch-requires-clause-come : goal.serve_epoch-requires-clause-come

@@ -1,4 +1,4 @@
-use Rattle.cn_renamer.proofs.Common.{string_bytes, ◌≡◌, ◌∙◌, rules, err_from_is_err_and, written-map, until_output}
+use Rattle.cn_renamer.proofs.Common.{string_bytes, ◌≡◌, ◌∙◌, err_from_is_err_and, written-map, until_output}
 use Rattle.cn_renamer.proofs.performing.end_without_job.Goals as goal
 
 pub returns-in_err-write_text-in-Help-clause-written : goal.returns-in_err-write_text-in-Help-clause-written
@@ -9,9 +9,3 @@ returns-in_err-write_text-in-Help-clause-written g c known =
     written-map g.W.Write.contents _ (λ text. text ≡ string_bytes c.in-Help.help) (until_output why) c.args.writer.now
     c.write_text.new.writer
     (λ text is. is ∙ c.as_bytes.ensures.value) c.in_err-write_text-in-Help.ensures)
-
-pub returns-in_ok-write_text-in-Help-clause-written : goal.returns-in_ok-write_text-in-Help-clause-written
-returns-in_ok-write_text-in-Help-clause-written g c = search rules
-
-pub returns-in_ok-write_text-in-Help-clause-ends : goal.returns-in_ok-write_text-in-Help-clause-ends
-returns-in_ok-write_text-in-Help-clause-ends g c = search rules

@@ -1,5 +1,5 @@
 use Rattle.cn_renamer.proofs.Common.{Ok, Err, map, string_bytes, rules}
-use Rattle.cn_renamer.proofs.Built.{is-built}
+use Rattle.cn_renamer.proofs.Asked.{is-built}
 use Rattle.cn_renamer.proofs.performing.run.Goals as goal
 
 pub returns-in-Ok : goal.returns-in-Ok
