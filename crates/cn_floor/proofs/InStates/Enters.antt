@@ -127,8 +127,8 @@ module _ (start : Start) (id entry : ℕ) (clients : List ℕ) (low : entry < st
 -- all may come in, by one add of their number
 pub lets-all-in : (start : Start) (slots id : ℕ) (me : Me (Unit {0}) View) (is : EnteringAll) (clients : List ℕ) (entry count : ℕ)
     → is ≡ record { start = start; clients = clients; entry = entry }
-    → me.1 ≡ [] → me.0.loads ≡ [] → me.0.start ≡ start → entry < start.network.table.entries → length me.0.tokens ≡ length start.network.table.ends
-    → count ≤ me.0.quota → length clients ≡ count
+    → me.1 ≡ [] → me.0.loads ≡ [] → me.0.start ≡ start → entry < start.network.table.entries
+    → length me.0.tokens ≡ length start.network.table.ends → count ≤ me.0.quota → length clients ≡ count
     → Allows (HoldsAt start) slots id me (1 + entry) (λ n. (n + count) % 2 ^ 64) (λ n new. (new.1 ≡ []) × AllComeIn is me.0 new.0)
 lets-all-in start slots id me is clients entry count by no_slot idle of low wires enough many = rw (by, ← many) (λ s kept homes here fits.
     let inside : entry < length me.0.tokens = omega (arith, wires, kept.began.network.formed.wires, low) in

@@ -96,7 +96,7 @@ module _ (start : Start) (s : FloorState) (id : ℕ) (v w : View) (here : get_el
   kept-recounted kept fresh =
       let a = kept.rule.accounted id v here in
       kept_alike start s (set s.views id w) kept (recounted-alike (base start))
-      (omega (arith, total-set (λ (x : View). x.quota + length x.entries) s.views id v w here, ap (λ (x : View). x.quota + length x.entries) like))
+      (let room : View → ℕ = λ x. x.quota + length x.entries in omega (arith, total-set room s.views id v w here, ap room like))
       (each-set (IsAccounted start.network) s.views id w kept.rule.accounted
       (subst (IsAccounted start.network) (sym like) (record { all = a.all; entries = a.entries; walked = a.walked })))
       (each-set (IsFresh start s.words) s.views id w kept.rule.fresh fresh)
@@ -126,7 +126,8 @@ module _ (s : FloorState) (id at : ℕ) where
       let words = set-set s.words at one (get_or (set s.words at one) at 0 + n) ∙ ap (set s.words at) sum in
       λ i. record { words = words i; homes = s.homes; views = set-set s.views id then w i }
 
-module _ (start : Start) (s : FloorState) (id at more : ℕ) (v : View) (event : Ledger → Ledger → Type 0) (here : get_elem? s.views id ≡ some v) where
+module _ (start : Start) (s : FloorState) (id at more : ℕ) (v : View) (event : Ledger → Ledger → Type 0)
+    (here : get_elem? s.views id ≡ some v) where
   -- how many steps the view counts is nothing to it
   pub adds-counted : (g : View) (k : ℕ) → Adds start s id at more g event → Adds start s id at more (record g { steps = k }) event
   adds-counted g k all =
@@ -147,7 +148,8 @@ module _ (start : Start) (s : FloorState) (id at more : ℕ) (v : View) (event :
   -- the word is no more than may come in, so that it does not wrap; and that is one atomic step
   pub record Stepped (w : View) : Type 0 where
     pub few : get_or s.words at 0 + more ≤ base start + start.quota
-    pub kept : HoldsAt start (record { words = set s.words at ((get_or s.words at 0 + more) % 2 ^ 64); homes = s.homes; views = set s.views id w })
+    pub kept : HoldsAt start
+        (record { words = set s.words at ((get_or s.words at 0 + more) % 2 ^ 64); homes = s.homes; views = set s.views id w })
     pub step : IsAtomicStep start v w event
 
   pub adds-step : (w : View) → HoldsAt start s → at < length s.words

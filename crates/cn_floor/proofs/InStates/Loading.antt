@@ -23,7 +23,8 @@ loads start slots id me is entry same no_slot next less s kept homes at fits =
     let word : entered_in t s.words (length v.loads) ≡ n = ap (entered_in t s.words) next ∙ entered-word t s.words entry less in
     let (fresh, says) = subst (λ (k : ℕ). IsFresh start s.words (after_load start k v) × IsLoad start v k) word
     (fresh-load start s.words v f, load-says start s.words v f (omega arith) (few-came start s kept)) in
-    let after = kept-recounted start s id v w at (recounted (eqb (length v.loads + 1) t.entries) start (v.loads ++ n ∷ []) v) kept fresh in (
+    let counts = recounted (eqb (length v.loads + 1) t.entries) start (v.loads ++ n ∷ []) v in
+    let after = kept-recounted start s id v w at counts kept fresh in (
       w,
       keeps,
       tt,

@@ -29,10 +29,11 @@ module _ (v w : View) (tokens : Lists)
     loads = idle;
   }
 
-  accounted-joined : ((g : ℕ → ℕ) → levels_in g (joined v w tokens weighed) ≡ levels_in g v + levels_in g w) → (network : Network) → IsAccounted network v
-      → IsAccounted network w → IsAccounted network (joined v w tokens weighed)
+  accounted-joined : ((g : ℕ → ℕ) → levels_in g (joined v w tokens weighed) ≡ levels_in g v + levels_in g w)
+      → (network : Network) → IsAccounted network v → IsAccounted network w → IsAccounted network (joined v w tokens weighed)
   accounted-joined levels network a b = record {
-    all = simp length-append (omega (arith, a.all, b.all, levels (λ _. 1), levels-one (joined v w tokens weighed), levels-one v, levels-one w));
+    all = simp length-append
+        (omega (arith, a.all, b.all, levels (λ _. 1), levels-one (joined v w tokens weighed), levels-one v, levels-one w));
     entries = All-append (λ (u : ℕ). u < network.table.entries) v.entries w.entries a.entries b.entries;
     walked = λ level is. simp length-append (omega (arith, a.walked level is, b.walked level is, levels level));
   }

@@ -167,6 +167,13 @@ lets-on start slots id me is token client wire end word by at no_slot idle of on
       all.kept,
       (
         no_slot,
-        (refl, record { step = all.step; few = omega (arith, all.few); sole = λ whole. sym count ∙ sole start s kept id me.0 here whole end stands }),
+        (
+          refl,
+          record {
+            step = all.step;
+            few = omega (arith, all.few);
+            sole = λ whole. sym count ∙ sole start s kept id me.0 here whole end stands;
+          },
+        ),
       ),
     ))

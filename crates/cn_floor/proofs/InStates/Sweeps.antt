@@ -76,8 +76,8 @@ module _ (start : Start) (wire : ℕ) (end : End) (formed : IsWellFormed start.n
     all-after-steps ((token, client) ∷ rest) s v n kept here may idle count =
         let word : ℕ = end_word t end in
         let then : View = after_step token client end n v in
-        let one = adds-step-on start id token client wire end v s kept here may.of (goes-there v token client rest may) may.wires ends stands
-        idle n count in
+        let goes = goes-there v token client rest may in
+        let one = adds-step-on start id token client wire end v s kept here may.of goes may.wires ends stands idle n count in
         let next : FloorState = added s id word 1 then in
         let more : count_in t next.words end ≡ n + 1 =
         count-raised t s.words kept.rule.words end end stands ∙ ap (λ b. count_in t s.words end + cond b 1 0) (end-self end)

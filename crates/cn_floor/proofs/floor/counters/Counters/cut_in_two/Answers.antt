@@ -11,7 +11,8 @@ split_seat-requires g c =
     let is = sum-both p.first p.second c.requires.wires (base start) c.requires.idle.0 in
     let cuts = cuts-in-two start c.args.seat.now.id (cut_first p both) (cut_second p both) both
     (record { each = is.each; quota = is.quota; many = is.many; grants = is.grants; loads = is.loads }) c.requires.idle.0 c.requires.idle.1
-    (omega arith) (omega arith) (accounted-seen start p.first _ _ c.requires.first) (accounted-seen start p.second _ _ c.requires.second) in (
+    (omega arith) (omega arith) (accounted-seen start p.first _ _ c.requires.first)
+    (accounted-seen start p.second _ _ c.requires.second) in (
       search rules,
       first-there c.self.inside c.self.invariant c.self.view_is,
       splits-at c.self.inside c.self.invariant c.self.view_is

@@ -13,7 +13,8 @@ module _ (c : goal.After-load_next-total) where
   loaded : Loaded c.args.self.now.start c.args.seat.now.me.0 (c.loop-entry.entry + 1) (c.loop-entry.total + c.load_next-total.result)
       c.load_next-total.new.seat.me.0
   loaded =
-      loaded-next _ _ _ _ _ _ _ (omega (arith, c.loop-entry-test.true, entries c.self.inside c.self.invariant c.self.view_is)) c.loop-entry.invariant.2 c.load_next-total.ensures.loads
+      loaded-next _ _ _ _ _ _ _ (omega (arith, c.loop-entry-test.true, entries c.self.inside c.self.invariant c.self.view_is))
+      c.loop-entry.invariant.2 c.load_next-total.ensures.loads
 
 pub overflow_add-total : goal.overflow_add-total
 overflow_add-total c =
