@@ -12,7 +12,7 @@ filled-none slots lane = record {
   lists = refl;
   grants = ([], sym (append-nil lane.view.grants), refl);
   all = refl;
-  own = λ k d less. absurd (omega arith);
+  by_name = λ k d less. absurd (omega arith);
 }
 
 pub filled-one : (slots : List Named) (a b c : LaneValue) (clients : List ℕ) (filled : List Filled) (one : Filled) (entry : ℕ)
@@ -32,7 +32,7 @@ filled-one slots a b c clients filled one entry by is at =
             ∙ sym (map-append given more grant),
       );
       all = map-append (λ (f : Filled). f.client) filled (one ∷ []) ∙ ap (λ (cs : List ℕ). cs ++ one.client ∷ []) by.all;
-      own = All-push (λ (f : Filled). (f.name < length slots) × (f.slot.now ≡ get_or slots f.name f.slot.now)) filled one by.own at;
+      by_name = All-push (λ (f : Filled). (f.name < length slots) × (f.slot.now ≡ get_or slots f.name f.slot.now)) filled one by.by_name at;
     }
 
 -- the names of the slots are those of all grants of a lane that had none

@@ -34,4 +34,4 @@ pub record FilledBy (slots : List Named) (old new : LaneValue) (clients : List �
   pub grants : (more : List Grant) × (new.view.grants ≡ old.view.grants ++ more)
       × (map written filled ≡ map given more)
   pub all : clients_filled filled ≡ clients
-  pub own : AreSlotsOf slots filled
+  pub by_name : AreSlotsOf slots filled

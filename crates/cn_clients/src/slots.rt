@@ -104,7 +104,7 @@ pub fn fill_by_two<'s, R: Threads>(
         × (clients_filled r.1.items ≡ second.now)) }
     ensures full { IfSome result (λ r. IsEachBelow (length r.0.items + length r.1.items)
         (names_of r.0.items ++ names_of r.1.items)) }
-    ensures own { IfSome result (λ r. AreSlotsOf slots.now r.0.items × AreSlotsOf slots.now r.1.items) }
+    ensures by_name { IfSome result (λ r. AreSlotsOf slots.now r.0.items × AreSlotsOf slots.now r.1.items) }
 {
     let Ok(other) = floor.split_off(&mut lane, second.len() as u64) else {
         return None;

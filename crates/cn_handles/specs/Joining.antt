@@ -3,11 +3,11 @@ use Rattle.std.specs.Prelude.{◌≡◌, ◌⊎◌, ℕ, Option, Some, ⊤}
 use Rattle.cn_floor.specs.Lane.{LaneValue}
 use Rattle.cn_handles.specs.Handles.{back_held}
 use Rattle.cn_handles.specs.Looking.{IsNoneBack, IsWhole}
-use Rattle.cn_handles.specs.Placing.{IsPut, IsUnturned}
+use Rattle.cn_handles.specs.Placing.{IsPut, IsPlaceFault}
 use Rattle.cn_handles.specs.Refusals.{WithLane}
 use Rattle.cn_handles.specs.Returns.{IsBack, JoinsTimes}
-use Rattle.cn_handles.specs.declared.places.Handed.{Handed}
-use Rattle.cn_handles.specs.declared.places.Handed.TheVariants.{AtPlace, NotItsOwn}
+use Rattle.cn_handles.specs.declared.places.HandBack.{HandBack}
+use Rattle.cn_handles.specs.declared.places.HandBack.TheVariants.{AtPlace, NotItsOwn}
 use Rattle.cn_handles.specs.declared.handles.held_lane.returning.JoinStop.{JoinStop}
 use Rattle.cn_handles.specs.declared.handles.held_lane.returning.JoinStop.TheVariants.{Nothing, NothingBack, Memory}
 use Rattle.cn_handles.specs.declared.handles.held_lane.returning.TakeStop.{TakeStop}
@@ -17,9 +17,9 @@ use Rattle.cn_handles.specs.declared.handles.refusal.Refusal.TheVariants as why
 use Rattle.cn_handles.specs.declared.places.searches.Search.{Search}
 
 -- where a lane ends that is handed back: it is at its place; or it is here, in its box, since its place was not its own
-abbrev pub EndsSomewhere : LaneValue → Handed → Type 0
+abbrev pub EndsSomewhere : LaneValue → HandBack → Type 0
 EndsSomewhere lane (AtPlace p ended) = IsPut lane p
-EndsSomewhere lane (NotItsOwn u here) = IsUnturned 2 u × (back_held here.value ≡ Some lane)
+EndsSomewhere lane (NotItsOwn u here) = IsPlaceFault 2 u × (back_held here.value ≡ Some lane)
 
 -- what a join leaves that stops: if no lane was back, what was seen; and where one is that was back, for whose grants
 -- there is no room

@@ -11,11 +11,11 @@ use Rattle.cn_handles.specs.declared.places.searches.EmptyRow.{EmptyRow}
 use Rattle.cn_handles.specs.declared.places.searches.NoneBack.{NoneBack}
 use Rattle.cn_handles.specs.declared.places.searches.NoneBack.TheVariants.{Searched, Late}
 use Rattle.cn_handles.specs.declared.places.searches.Search.{Search}
-use Rattle.cn_handles.specs.declared.places.taken.Taken.{Taken}
+use Rattle.cn_handles.specs.declared.places.lane_from_place.LaneFromPlace.{LaneFromPlace}
 
 -- a lane of this floor with nobody inside, and a place there
-abbrev pub IsTakenOf : FloorValue → Taken × Place → Type 0
-IsTakenOf floor t = IsBack floor t.0.lane.value × IsPlaceOf floor t.1
+abbrev pub IsFromPlaceOf : FloorValue → LaneFromPlace × Place → Type 0
+IsFromPlaceOf floor t = IsBack floor t.0.lane.value × IsPlaceOf floor t.1
 
 -- the row with this number was not made; or has as many readers as it can have, or owners; or was turned by other
 -- threads for centuries

@@ -11,7 +11,7 @@ use Rattle.cn_handles.specs.declared.places.row.Row.{Row}
 use Rattle.cn_handles.specs.declared.places.row.SharedRow.{SharedRow}
 use Rattle.cn_handles.specs.declared.places.turns.Found.{Found}
 use Rattle.cn_handles.specs.declared.places.turns.Put.{Put}
-use Rattle.cn_handles.specs.declared.places.turns.Unturned.{Unturned}
+use Rattle.cn_handles.specs.declared.places.turns.PlaceFault.{PlaceFault}
 
 -- each place is for lanes of this floor
 abbrev pub AreTagsOf : FloorValue → List FloorValue → Type 0
@@ -39,12 +39,12 @@ abbrev pub row_size : ℕ → ℕ
 row_size at = 16 * 2 ^ at
 
 -- a place was not in this state when it was looked at, or when it was to be turned
-abbrev pub IsUnturned : ℕ → Unturned → Type 0
-IsUnturned state u = u.word ≢ state
+abbrev pub IsPlaceFault : ℕ → PlaceFault → Type 0
+IsPlaceFault state u = u.word ≢ state
 
 -- the same of the place here: of this row of the floor, with this number there
-abbrev pub IsNotIn : Spot → ℕ → Unturned → Type 0
-IsNotIn spot state u = (u.spot ≡ spot) × IsUnturned state u
+abbrev pub IsNotIn : Spot → ℕ → PlaceFault → Type 0
+IsNotIn spot state u = (u.spot ≡ spot) × IsPlaceFault state u
 
 -- what stood at a place in this state: a lane of this floor, if the state is that of places with one
 abbrev pub IsFound : FloorValue → ℕ → Found → Type 0

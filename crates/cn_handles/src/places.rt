@@ -3,13 +3,13 @@
 mod claiming;
 mod closing;
 mod kept;
+mod lane_from_place;
 mod place;
 mod reading_rows;
 mod row;
 mod searches;
 mod searching;
 mod shares;
-mod taken;
 mod turns;
 
 ghost use Rattle.std.specs.Arc.{arc_value};
@@ -24,6 +24,7 @@ use cn_floor::{Floor, Lane};
 use counted_slot::{Counted, FREE, PRESENT};
 use kept::Kept;
 pub(crate) use kept::keep;
+pub(crate) use lane_from_place::{LaneFromPlace, LetGo};
 pub(crate) use place::Place;
 use reading_rows::RowSlot;
 use row::Counts;
@@ -34,8 +35,7 @@ use std::marker::Model;
 use std::sync::Arc;
 use std::sync::atomic::AtomicU64;
 use std::sync::atomic::Ordering::SeqCst;
-pub(crate) use taken::{LetGo, Taken};
-use turns::{Ended, Put, Unturned};
+use turns::{Ended, PlaceFault, Put};
 
 /// How many rows there are at most.
 pub(crate) const ROWS: usize = 26;
@@ -63,11 +63,11 @@ impl Model for FloorWithPlaces {
 
 /// Where a lane went that was handed back, also by a join that could not take it in.
 #[derive(Drop)]
-pub(crate) enum Handed {
+pub(crate) enum HandBack {
     /// To its place, and its hand-back was counted then.
     AtPlace(Put, Ended),
     /// Here, since its place was not its own, which no call makes it.
-    NotItsOwn(Unturned, Box<Kept>),
+    NotItsOwn(PlaceFault, Box<Kept>),
 }
 
 /// A share of a floor: lanes own their floor together. It is there until its close takes it out.
@@ -155,7 +155,7 @@ impl FloorWithPlaces {
     }
 
     /// Hands a lane back to its place, in its box: by as many steps as there are counts of the place, and four.
-    pub(crate) fn hand_back(&self, place: Place, lane: Lane, boxed: Box<Kept>) -> Handed
+    pub(crate) fn hand_back(&self, place: Place, lane: Lane, boxed: Box<Kept>) -> HandBack
         requires place { IsPlaceOf self.now place }
         requires lane { IsBack self.now lane }
         ensures { EndsSomewhere lane result }
@@ -164,9 +164,9 @@ impl FloorWithPlaces {
         match place.put(&self.floor, lane, boxed) {
             Ok(put) => {
                 let ended = Ended::after(&put, &self.returns);
-                Handed::AtPlace(put, ended)
+                HandBack::AtPlace(put, ended)
             }
-            Err((other, boxed)) => Handed::NotItsOwn(other, boxed),
+            Err((other, boxed)) => HandBack::NotItsOwn(other, boxed),
         }
     }
 }

@@ -59,29 +59,29 @@ noted-one {before} {now} {gone} {clients} {all} {names} most new p grant was gre
 
 -- of those who leave by an exit
 pub noted-next : {before : List Grant} {clients : List ℕ} {all : List Grant} {names : List ℕ} (now : List Grant) (gone : ℕ → ℕ)
-    (width less exit visit first stride n : ℕ) (most : List Grant) (new : List ℕ) (grant : Grant)
-    → AreNoted before (now ++ grants_out width less exit visit (placed clients first stride n))
-    (gone_too gone (placed clients first stride n)) clients all names
+    (width less exit visit first gap n : ℕ) (most : List Grant) (new : List ℕ) (grant : Grant)
+    → AreNoted before (now ++ grants_out width less exit visit (placed clients first gap n))
+    (gone_too gone (placed clients first gap n)) clients all names
     → grant ≡ record {
-      client = slice_index clients (first + stride * n);
+      client = slice_index clients (first + gap * n);
       exit = exit;
       visit = visit + n;
       name = name_of width exit (visit + n) - less;
     }
-    → most ≡ all ++ grant ∷ [] → first + stride * n < length clients → length new ≡ length names
-    → (first + stride * n < length names → slice_index new (first + stride * n) ≡ grant.name)
-    → ((k : ℕ) → k ≢ first + stride * n → slice_index new k ≡ slice_index names k)
-    → AreNoted before (now ++ grants_out width less exit visit (placed clients first stride (n + 1)))
-    (gone_too gone (placed clients first stride (n + 1))) clients most new
-noted-next {before} {clients} now gone width less exit visit first stride n most new grant was is grew inside long here kept =
-    let p : ℕ = first + stride * n in
-    let so_far = placed clients first stride n in
+    → most ≡ all ++ grant ∷ [] → first + gap * n < length clients → length new ≡ length names
+    → (first + gap * n < length names → slice_index new (first + gap * n) ≡ grant.name)
+    → ((k : ℕ) → k ≢ first + gap * n → slice_index new k ≡ slice_index names k)
+    → AreNoted before (now ++ grants_out width less exit visit (placed clients first gap (n + 1)))
+    (gone_too gone (placed clients first gap (n + 1))) clients most new
+noted-next {before} {clients} now gone width less exit visit first gap n most new grant was is grew inside long here kept =
+    let p : ℕ = first + gap * n in
+    let so_far = placed clients first gap n in
     let out : List (ℕ × ℕ) → List Grant = λ es. grants_out width less exit visit es in
     let next : n + 1 ≡ suc n = omega arith in
-    let tokens = ap (placed clients first stride) next ∙ placed-more clients first stride n in
-    let grows : out (placed clients first stride (n + 1)) ≡ out so_far ++ grant ∷ [] =
+    let tokens = ap (placed clients first gap) next ∙ placed-more clients first gap n in
+    let grows : out (placed clients first gap (n + 1)) ≡ out so_far ++ grant ∷ [] =
     ap out tokens ∙ grants-next width less exit visit (visit + n) so_far p (slice_index clients p)
-    (omega (arith, placed-many clients first stride n)) ∙ (λ i. out so_far ++ sym is i ∷ []) in
+    (omega (arith, placed-many clients first gap n)) ∙ (λ i. out so_far ++ sym is i ∷ []) in
     let grants = append_assoc now (out so_far) (grant ∷ []) ∙ ap (λ (gs : List Grant). now ++ gs) (sym grows) in
     let gone-too = both-too gone so_far ((p, slice_index clients p) ∷ []) ∙ ap (gone_too gone) (sym tokens) in
     subst (λ (z : List Grant × (ℕ → ℕ)). AreNoted before z.0 z.1 clients most new) (λ i. (grants i, gone-too i))

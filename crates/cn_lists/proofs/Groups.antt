@@ -9,40 +9,40 @@ use Rattle.cn_lists.proofs.Common.{◌≡◌, ℕ, zero, suc, ◌+◌, ◌-◌, 
 mutual
   unfolding placed every_second
 
-  pub placed-even : (clients : List ℕ) (first stride n : ℕ)
-      → every_second 0 (placed clients first stride n) ≡ placed clients first (2 * stride) (n - n / 2)
-  placed-even clients first stride zero = refl
-  placed-even clients first stride (suc n) =
+  pub placed-even : (clients : List ℕ) (first gap n : ℕ)
+      → every_second 0 (placed clients first gap n) ≡ placed clients first (2 * gap) (n - n / 2)
+  placed-even clients first gap zero = refl
+  placed-even clients first gap (suc n) =
       let many : suc n - suc n / 2 ≡ suc (n / 2) = omega arith in
-      let to : first + stride + stride ≡ first + 2 * stride = omega arith in
+      let to : first + gap + gap ≡ first + 2 * gap = omega arith in
       rw many (ap (λ (es : List (ℕ × ℕ)). (first, slice_index clients first) ∷ es)
-      (placed-odd clients (first + stride) stride n ∙ ap (λ (k : ℕ). placed clients k (2 * stride) (n / 2)) to))
+      (placed-odd clients (first + gap) gap n ∙ ap (λ (k : ℕ). placed clients k (2 * gap) (n / 2)) to))
 
-  pub placed-odd : (clients : List ℕ) (first stride n : ℕ)
-      → every_second 1 (placed clients first stride n) ≡ placed clients (first + stride) (2 * stride) (n / 2)
-  placed-odd clients first stride zero = refl
-  placed-odd clients first stride (suc n) =
+  pub placed-odd : (clients : List ℕ) (first gap n : ℕ)
+      → every_second 1 (placed clients first gap n) ≡ placed clients (first + gap) (2 * gap) (n / 2)
+  placed-odd clients first gap zero = refl
+  placed-odd clients first gap (suc n) =
       let many : suc n / 2 ≡ n - n / 2 = omega arith in
-      rw many (placed-even clients (first + stride) stride n)
+      rw many (placed-even clients (first + gap) gap n)
 
-pub placed-many : (clients : List ℕ) (first stride n : ℕ) → length (placed clients first stride n) ≡ n
+pub placed-many : (clients : List ℕ) (first gap n : ℕ) → length (placed clients first gap n) ≡ n
 unfolding placed
-placed-many clients first stride zero = refl
-placed-many clients first stride (suc n) = ap suc (placed-many clients (first + stride) stride n)
+placed-many clients first gap zero = refl
+placed-many clients first gap (suc n) = ap suc (placed-many clients (first + gap) gap n)
 
 -- one more at the end
-pub placed-more : (clients : List ℕ) (first stride n : ℕ)
-    → placed clients first stride (suc n) ≡ placed clients first stride n ++ (first + stride * n, slice_index clients (first + stride * n))
+pub placed-more : (clients : List ℕ) (first gap n : ℕ)
+    → placed clients first gap (suc n) ≡ placed clients first gap n ++ (first + gap * n, slice_index clients (first + gap * n))
     ∷ []
 unfolding placed
-placed-more clients first stride zero =
-    let at : first ≡ first + stride * 0 = omega arith in
+placed-more clients first gap zero =
+    let at : first ≡ first + gap * 0 = omega arith in
     ap (λ (k : ℕ). (k, slice_index clients k) ∷ []) at
-placed-more clients first stride (suc n) =
-    let at : first + stride + stride * n ≡ first + stride * suc n = omega arith in
+placed-more clients first gap (suc n) =
+    let at : first + gap + gap * n ≡ first + gap * suc n = omega arith in
     ap (λ (es : List (ℕ × ℕ)). (first, slice_index clients first) ∷ es)
-    (placed-more clients (first + stride) stride n
-    ∙ ap (λ (k : ℕ). placed clients (first + stride) stride n ++ (k, slice_index clients k) ∷ []) at)
+    (placed-more clients (first + gap) gap n
+    ∙ ap (λ (k : ℕ). placed clients (first + gap) gap n ++ (k, slice_index clients k) ∷ []) at)
 
 -- the places, and the clients, of those who stand at each place
 pub all-places : (clients : List ℕ) (first n : ℕ) → map (λ e. e.0) (placed clients first 1 n) ≡ range_with_len first n

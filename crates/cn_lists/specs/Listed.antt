@@ -13,11 +13,11 @@ use Rattle.cn_floor.specs.EntersAll.{EnterInTurn, after_enter_all}
 use Rattle.cn_floor.specs.Steps.{IsAtomicStep, StoodInState}
 use Rattle.cn_floor.specs.Sweeps.{SweptBy}
 
--- of a list's clients those at the places first, first + stride and so on, so many; each is a token with the number of
+-- of a list's clients those at the places first, first + gap and so on, so many; each is a token with the number of
 -- its place
 unfoldable pub placed : List ℕ → ℕ → ℕ → ℕ → List (ℕ × ℕ)
-placed clients first stride zero = []
-placed clients first stride (suc n) = (first, slice_index clients first) ∷ placed clients (first + stride) stride n
+placed clients first gap zero = []
+placed clients first gap (suc n) = (first, slice_index clients first) ∷ placed clients (first + gap) gap n
 
 -- what stays the same of a lane's grants, a list of clients who get more, and that of their names
 pub record ListFrame : Type 0 where
@@ -40,8 +40,8 @@ frame_of notes = record {
 
 -- these tokens are so many of the list's clients, from a place on
 pub record Stand (frame : ListFrame) (p : Places) (count : ℕ) (tokens : List (ℕ × ℕ)) : Type 0 where
-  pub are : tokens ≡ placed frame.clients p.first p.stride count
-  pub within : 0 < count → p.first + p.stride * (count - 1) < length frame.clients
+  pub are : tokens ≡ placed frame.clients p.first p.gap count
+  pub within : 0 < count → p.first + p.gap * (count - 1) < length frame.clients
   pub few : length frame.clients < 2 ^ 63
 
 -- how often each token has gone, if it went so often and these have gone too

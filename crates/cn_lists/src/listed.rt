@@ -6,16 +6,16 @@ ghost use Rattle.cn_yard.specs.Deals.{every_second};
 ghost use Rattle.cn_yard.specs.Lists.{tokens_in};
 ghost use Rattle.cn_lists.specs.Listed.{AreNamed, AreNoted, HaveNames, HaveWalked, ListFrame, Stand, frame_of};
 
-use crate::passing::{Party, walk_all};
+use crate::passing::{Party, walk_party};
 use cn_exit::name_of;
 use cn_floor::{Floor, Grant, Lane, LaneFault, Post, Walk};
 
-/// Where those of a list's clients who stand on one wire stand in the list, first to last: at every `stride`-th place
+/// Where those of a list's clients who stand on one wire stand in the list, first to last: at every `gap`-th place
 /// from `first` on.
 #[derive(Clone, Copy)]
 struct Places {
     first: usize,
-    stride: usize,
+    gap: usize,
 }
 
 /// The clients of a list, who walk together, and the list of their names, with a place for each or for none.
@@ -74,10 +74,10 @@ impl<'g, 'c> Party<Granting<'g, 'c>> for Places {
             → Stand frame result.0 (count - count / 2) (every_second 0 tokens)
             × Stand frame result.1 (count / 2) (every_second 1 tokens) }
     {
-        let stride = 2 * self.stride;
-        let even = Places { stride, ..self };
-        let first = self.first + self.stride;
-        (even, Places { first, stride })
+        let gap = 2 * self.gap;
+        let even = Places { gap, ..self };
+        let first = self.first + self.gap;
+        (even, Places { first, gap })
     }
 
     fn leave(
@@ -93,7 +93,7 @@ impl<'g, 'c> Party<Granting<'g, 'c>> for Places {
         let grants = &mut *notes.grants;
         let list = &mut *notes.list;
         for number in 0..count {
-            let place = self.first + self.stride * number;
+            let place = self.first + self.gap * number;
             let visit = first + number as u64;
             let name = name_of(width, exit, visit) - base;
             grants.push_reserved(Grant {
@@ -119,11 +119,8 @@ impl<'c> Walk<()> for Together<'c> {
     }
 
     fn walk(&mut self, floor: &Floor<'_>, post: &mut Post, grants: &mut Vec<Grant>, entry: u32) {
-        let all = Places {
-            first: 0,
-            stride: 1,
-        };
-        walk_all(
+        let all = Places { first: 0, gap: 1 };
+        walk_party(
             floor,
             post,
             &mut Granting { grants, list: self },

@@ -153,7 +153,7 @@ fn come_in<N, P: Party<N>>(
 }
 
 /// Lets the clients who may be noted in by one entry and walks them out, by a view with nobody inside.
-pub(crate) fn walk_all<N, P: Party<N>>(
+pub(crate) fn walk_party<N, P: Party<N>>(
     floor: &Floor<'_>,
     post: &mut Post,
     notes: &mut N,

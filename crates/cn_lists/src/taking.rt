@@ -5,7 +5,7 @@ ghost use Rattle.cn_floor.specs.Steps.{IsAnswer, StoodInState};
 ghost use Rattle.cn_lists.specs.Taking.{AreTaken, AreWritten, IsTaken, empty_taker};
 ghost use Rattle.cn_floor.specs.Views.{after_entered, after_look, after_split, split_off};
 
-use crate::passing::{Party, walk_all};
+use crate::passing::{Party, walk_party};
 use crate::taker::Taker;
 use cn_exit::name_of;
 use cn_floor::{Floor, LaneFault, NoPause, SplitFault};
@@ -156,6 +156,6 @@ pub fn take_many(
         return Err(LaneFault::QuotaSpent);
     }
     let mut notes = Names { names, at: 0 };
-    walk_all(floor, &mut taker.post, &mut notes, Anyone, entry as u32);
+    walk_party(floor, &mut taker.post, &mut notes, Anyone, entry as u32);
     Ok(())
 }

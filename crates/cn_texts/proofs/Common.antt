@@ -26,7 +26,7 @@ pub use Rattle.cn_texts.specs.Grants.Printed.{IsNamedList, epoch_numbers, named_
 pub use Rattle.cn_texts.specs.declared.grants.record.Granted.{Granted}
 pub use Rattle.cn_spec.specs.Sums.{times, when}
 pub use Rattle.cn_texts.specs.Reading.Gathered.{HoldsArrivals, IsGathered, StaysServable, adding_cause, ended_after}
-pub use Rattle.cn_texts.specs.Reading.Stretch.{AreSpelled, AreTaken, EndsAfter, Gathers, HasHeader, HasSameHeader, HasStretch, ReadsStretch}
+pub use Rattle.cn_texts.specs.Reading.Stretch.{AreSpelled, AreRead, EndsAfter, Gathers, HasHeader, HasSameHeader, HasStretch, ReadsStretch}
 pub use Rattle.cn_texts.specs.declared.reading.batch.BatchEpoch.{BatchEpoch}
 pub use Rattle.std.proofs.lemmas.Result.{IfOk-weaker, err_from_is_err_and}
 pub use Rattle.cn_texts.specs.Grants.Occurrences.{IsFirstRepeat, IsRepeat, has_number, numbers_of}

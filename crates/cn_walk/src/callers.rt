@@ -9,7 +9,7 @@ ghost use Rattle.cn_walk.specs.Runs.{IsRefused, IsRun, IsRunAfter, MayRun};
 ghost use Rattle.cn_walk.specs.Walks.{AreInOrder};
 
 use crate::crew::Crew;
-use crate::running::{RunFault, may_run, walk_floor};
+use crate::running::{RunFault, may_run, walk_and_close};
 use cn_floor::{Floor, Gate, Lane, Quiet, Words};
 use cn_ledger::Client;
 use cn_spec::limits::MOST_CLIENTS;
@@ -117,7 +117,7 @@ fn walk_to_quiet<'a, G: Gate + Sync, R: Threads + Wait + Sync>(
         → IfOk result (λ quiet. AreInOrder 0 clients.now quiet.did.grants) }
     ensures refused { IfErr result (λ fault. fault ≡ RunFault.Memory) }
 {
-    match walk_floor(rt, alloc, floor, lane, clients, crew, gate) {
+    match walk_and_close(rt, alloc, floor, lane, clients, crew, gate) {
         Ok((closed, leftovers)) => match closed.into_quiet(leftovers) {
             Ok(quiet) => Ok(quiet),
             Err(_memory) => Err(RunFault::Memory),

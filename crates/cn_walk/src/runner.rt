@@ -8,7 +8,7 @@ ghost use Rattle.cn_walk.specs.Runs.{IsRefused, IsRunAfter, MayRun};
 ghost use Rattle.cn_walk.specs.Walks.{AreInOrder};
 
 use crate::crew::Crew;
-use crate::running::{RunFault, may_run, walk_floor};
+use crate::running::{RunFault, may_run, walk_and_close};
 use cn_floor::{ClosedFloor, Floor, Gate, Leftovers, Words};
 use cn_ledger::Client;
 use cn_spec::limits::MOST_NAMED;
@@ -97,10 +97,10 @@ impl<'a> Runner<'a> {
             return (self, Err(fault));
         }
         let Runner { leftovers, carries } = self;
-        let ended = match walk_after(rt, alloc, leftovers, clients, crew, gate) {
+        let ended = match open_and_walk(rt, alloc, leftovers, clients, crew, gate) {
             Err(leftovers) if crew.workers > 1 => {
                 let one = Crew { workers: 1, ..crew };
-                walk_after(rt, alloc, leftovers, clients, one, gate)
+                open_and_walk(rt, alloc, leftovers, clients, one, gate)
             }
             ended => ended,
         };
@@ -113,7 +113,7 @@ impl<'a> Runner<'a> {
 
 /// Walks the clients of an epoch that may be run over a floor that goes on from these leftovers. If memory is refused,
 /// leftovers with the same words come back.
-fn walk_after<'a, G: Gate + Sync, R: Threads + Wait + Sync>(
+fn open_and_walk<'a, G: Gate + Sync, R: Threads + Wait + Sync>(
     rt: &R,
     alloc: Global,
     leftovers: Leftovers<'a>,
@@ -131,7 +131,7 @@ fn walk_after<'a, G: Gate + Sync, R: Threads + Wait + Sync>(
     ensures back { IfErr result (λ back. back.words ≡ leftovers.entry.words) }
 {
     let (floor, lane) = Floor::open_on(alloc, leftovers, clients.len() as u64)?;
-    walk_floor(rt, alloc, floor, lane, clients, crew, gate)
+    walk_and_close(rt, alloc, floor, lane, clients, crew, gate)
 }
 
 /// The runner after an epoch.

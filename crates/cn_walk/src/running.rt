@@ -65,7 +65,7 @@ pub(crate) fn may_run(
 
 /// Walks these clients over a floor that was opened for them, and closes it. If memory is refused, what is left of it
 /// has the words with which it began, as it has after it is closed.
-pub(crate) fn walk_floor<'a, G: Gate + Sync, R: Threads + Wait + Sync>(
+pub(crate) fn walk_and_close<'a, G: Gate + Sync, R: Threads + Wait + Sync>(
     rt: &R,
     alloc: Global,
     floor: Floor<'a>,

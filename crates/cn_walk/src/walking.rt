@@ -10,7 +10,7 @@ use cn_tables::End;
 use std::sync::Wait;
 
 /// Lets the clients in, one after the other; no more than `hand` are inside then. The hand is only for the proof.
-fn walk_in<'a, G: Gate, R: Wait>(
+fn fill_hand<'a, G: Gate, R: Wait>(
     rt: &R,
     floor: &Floor<'a>,
     lane: &mut Lane,
@@ -39,7 +39,13 @@ fn walk_in<'a, G: Gate, R: Wait>(
 
 /// Sweeps the lowest wire that has a token, until nobody is inside. Tokens go on to greater wires, so none stands below
 /// the wire that was swept last.
-fn walk_out<'a, G: Gate, R: Wait>(rt: &R, floor: &Floor<'a>, lane: &mut Lane, gate: &G, worker: u32)
+fn sweep_out<'a, G: Gate, R: Wait>(
+    rt: &R,
+    floor: &Floor<'a>,
+    lane: &mut Lane,
+    gate: &G,
+    worker: u32,
+)
     requires own { lane.old.home ≡ floor.now }
     ensures walked { Walks lane.old lane.new [] }
     ensures out { tokens_in lane.new.yard.lists ≡ 0 }
@@ -122,8 +128,8 @@ pub fn walk_all<'a, G: Gate, R: Wait>(
     let mut rest = clients;
     while !rest.is_empty() {
         let (next, later) = rest.split_at(rest.len().min(hand as usize));
-        walk_in(rt, floor, &mut lane, next, hand, gate, worker);
-        walk_out(rt, floor, &mut lane, gate, worker);
+        fill_hand(rt, floor, &mut lane, next, hand, gate, worker);
+        sweep_out(rt, floor, &mut lane, gate, worker);
         rest = later;
     }
     lane

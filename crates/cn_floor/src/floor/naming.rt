@@ -133,16 +133,16 @@ impl<'a> Floor<'a> {
     {
         let stride = self.counters.stride();
         if stride == 1 {
-            self.walk_by(network, post, client, entry, 1, pause)
+            self.walk_with_stride(network, post, client, entry, 1, pause)
         } else {
-            self.walk_by(network, post, client, entry, stride, pause)
+            self.walk_with_stride(network, post, client, entry, stride, pause)
         }
     }
 
     /// The same, by how far apart the words lie. It is made part of its caller, and so is what it calls: then each of
     /// its steps knows a stride that is written there as a constant.
     #[inline(always)]
-    fn walk_by<P: Pause>(
+    fn walk_with_stride<P: Pause>(
         &self,
         network: &Counting,
         post: &mut Post,

@@ -2,15 +2,15 @@
 //! stays once it is made.
 
 ghost use Rattle.std.specs.Prelude.{IfErr, IfOk};
-ghost use Rattle.cn_handles.specs.Looking.{IsNoneBack, IsTakenOf};
+ghost use Rattle.cn_handles.specs.Looking.{IsNoneBack, IsFromPlaceOf};
 ghost use Rattle.cn_handles.specs.Placing.{IsPlaceOf};
 
 use super::{FloorWithPlaces, ROWS};
+use crate::places::lane_from_place::LaneFromPlace;
 use crate::places::place::Place;
 use crate::places::reading_rows::make_row;
 use crate::places::row::{Row, SharedRow};
 use crate::places::searches::{MOST_SEARCHES, NoneBack};
-use crate::places::taken::Taken;
 use counted_slot::FREE;
 use std::alloc::{AllocError, Global};
 use std::sync::Arc;
@@ -24,8 +24,8 @@ impl FloorWithPlaces {
     ///
     /// # Errors
     /// What was seen, if no lane is there.
-    pub(crate) fn take_back(&self) -> Result<(Taken, Place), NoneBack>
-        ensures ok { IfOk result (IsTakenOf self.now) }
+    pub(crate) fn take_back(&self) -> Result<(LaneFromPlace, Place), NoneBack>
+        ensures ok { IfOk result (IsFromPlaceOf self.now) }
         ensures none { IfErr result IsNoneBack }
     {
         let mut search = self.new_search();

@@ -9,7 +9,7 @@ ghost use Rattle.cn_handles.specs.Placing.{IsNotIn};
 use crate::places::place::Spot;
 use crate::places::reading_rows::{ReadRow, Unread};
 use crate::places::row::{Counts, Row, group_size};
-use crate::places::turns::Unturned;
+use crate::places::turns::PlaceFault;
 use crate::places::{FloorWithPlaces, ROWS};
 use std::sync::atomic::Ordering::SeqCst;
 
@@ -190,7 +190,7 @@ impl Search {
     }
 
     /// Passes a place that was not in the state.
-    pub(crate) fn pass(mut self, none: Unturned) -> Search
+    pub(crate) fn pass(mut self, none: PlaceFault) -> Search
         requires none { IsNotIn self.on self.state none }
         requires few { self.on.place + 1 < 2 ^ 64 }
         ensures { result ≡ record self { on = record { row = self.on.row; place = self.on.place + 1 } } }

@@ -2,15 +2,15 @@
 
 ghost use Rattle.std.specs.Arc.{arc_value};
 ghost use Rattle.std.specs.Prelude.{◌≡◌, ◌≤◌, ◌<◌, IfErr, IfOk, IfSome, length};
-ghost use Rattle.cn_handles.specs.Looking.{GoesOn, IsNewSearch, IsTakenOf, IsWithin};
+ghost use Rattle.cn_handles.specs.Looking.{GoesOn, IsNewSearch, IsFromPlaceOf, IsWithin};
 ghost use Rattle.cn_handles.specs.Placing.{IsFound, IsPlaceOf, IsSharedRowOf};
 
 use super::{FloorWithPlaces, ROWS};
+use crate::places::lane_from_place::LaneFromPlace;
 use crate::places::place::Place;
 use crate::places::reading_rows::{ReadRow, read_row};
 use crate::places::row::Counts;
 use crate::places::searches::{EmptyGroup, EmptyRow, MOST_JOINS, Search};
-use crate::places::taken::Taken;
 use crate::places::turns::{Found, take_from};
 use cn_floor::Floor;
 use counted_slot::{FREE, PRESENT};
@@ -100,10 +100,13 @@ impl FloorWithPlaces {
     ///
     /// # Errors
     /// The search, if there is none.
-    pub(crate) fn search_lane(&self, search: Search) -> Result<(Taken, Place, Search), Search>
+    pub(crate) fn search_lane(
+        &self,
+        search: Search,
+    ) -> Result<(LaneFromPlace, Place, Search), Search>
         requires lanes { search.state ≡ 1 }
         requires few { (search.found < MOST_JOINS) × IsWithin search }
-        ensures taken { IfOk result (λ r. IsTakenOf self.now (r.0, r.1)) }
+        ensures taken { IfOk result (λ r. IsFromPlaceOf self.now (r.0, r.1)) }
         ensures ok { IfOk result (λ r. GoesOn 1 search r.2 × IsWithin r.2) }
         ensures err { IfErr result (λ s. GoesOn 0 search s × (s.on.row ≡ 26)) }
     {

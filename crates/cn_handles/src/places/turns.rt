@@ -11,10 +11,10 @@ ghost use Rattle.cn_handles.specs.declared.places.place.Spot.{Spot};
 
 use crate::handles::held::Held;
 use crate::places::kept::Kept;
+use crate::places::lane_from_place::LaneFromPlace;
 use crate::places::place::{Place, PlaceBox, Spot};
 use crate::places::reading_rows::ReadRow;
 use crate::places::row::Row;
-use crate::places::taken::Taken;
 use cn_floor::{Floor, Lane};
 use counted_slot::{Claim, Counted, FREE, MARKED, PRESENT, TAKEN};
 use std::snapshot::Snapshot;
@@ -28,7 +28,7 @@ pub(crate) type OnePlace = Counted<Option<PlaceBox>>;
 
 /// Why a place was not turned: its word when it was looked at, or was to be turned.
 #[derive(Drop)]
-pub(crate) struct Unturned {
+pub(crate) struct PlaceFault {
     spot: Spot,
     word: u64,
 }
@@ -73,7 +73,7 @@ impl Found {
     }
 
     /// The lane that was handed back to its place.
-    pub(crate) fn lane(self, floor: &Floor<'static>) -> Taken
+    pub(crate) fn lane(self, floor: &Floor<'static>) -> LaneFromPlace
         requires { IsFound floor.now 1 self }
         ensures { IsBack floor.now result.lane.value }
     {
@@ -82,7 +82,7 @@ impl Found {
             there,
         } = self;
         match there {
-            Some(returned) => Taken::of(returned, floor),
+            Some(returned) => LaneFromPlace::of(returned, floor),
             None => unreachable!(),
         }
     }
@@ -97,7 +97,7 @@ fn turn_place<'a>(
     spot: Spot,
     state: u64,
     floor: &Floor<'static>,
-) -> Result<Claim<'a, Option<PlaceBox>>, Unturned>
+) -> Result<Claim<'a, Option<PlaceBox>>, PlaceFault>
     requires row { IsRowOf floor.now row.now }
     requires place { spot.place < length row.now.places.items }
     requires state { state < 3 }
@@ -109,12 +109,12 @@ fn turn_place<'a>(
     let place = &row.places[spot.place];
     let word = place.load();
     if word != state {
-        return Err(Unturned { spot, word });
+        return Err(PlaceFault { spot, word });
     }
     let (word, claim) = place.turn(state, TAKEN);
     if word != state {
         claim.done();
-        return Err(Unturned { spot, word });
+        return Err(PlaceFault { spot, word });
     }
     Ok(claim)
 }
@@ -128,7 +128,7 @@ pub(crate) fn take_from(
     place: usize,
     state: u64,
     floor: &Floor<'static>,
-) -> Result<Found, Unturned>
+) -> Result<Found, PlaceFault>
     requires row { IsSharedRowOf floor.now row.now.shared }
     requires place { place < length (arc_value row.now.shared.row).places.items }
     requires state { state < 2 }
@@ -137,7 +137,7 @@ pub(crate) fn take_from(
 {
     let spot = row.spot(place);
     match turn_place(row.row(), spot, state, floor)?.put(None, MARKED) {
-        None if state == PRESENT => Err(Unturned { spot, word: MARKED }),
+        None if state == PRESENT => Err(PlaceFault { spot, word: MARKED }),
         there => Ok(Found { state, there }),
     }
 }
@@ -152,7 +152,7 @@ impl Place {
         floor: &Floor<'static>,
         lane: Lane,
         mut boxed: Box<Kept>,
-    ) -> Result<Put, (Unturned, Box<Kept>)>
+    ) -> Result<Put, (PlaceFault, Box<Kept>)>
         requires place { IsPlaceOf floor.now self }
         requires lane { IsBack floor.now lane }
         ensures ok { IfOk result (IsPut lane) }

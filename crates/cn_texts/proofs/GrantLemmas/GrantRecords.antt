@@ -13,20 +13,20 @@ use Rattle.cn_texts.proofs.GrantLemmas.TightFacts.{AreOnce, list-tight, once-nex
 use Rattle.cn_texts.specs.declared.grants.record.Flaw.TheVariants.{Memory}
 
 -- the records so far: a header, and a record for each grant
-pub record AreTaken (most : ℕ) (records : List Record) (grants : List Granted) : Type 0 where
+pub record AreRead (most : ℕ) (records : List Record) (grants : List Granted) : Type 0 where
   pub clean : AreClean header_cause (record_cause most) records
   pub spells : grants_spelled (drop 1 records) ≡ grants
   pub counted : length grants + 1 ≡ length records
   pub once : AreOnce grants
 
-pub taken-header : {most : ℕ} (fields : Record) → header_cause fields ≡ None → AreTaken most (fields ∷ []) []
+pub taken-header : {most : ℕ} (fields : Record) → header_cause fields ≡ None → AreRead most (fields ∷ []) []
 taken-header fields e =
     record { clean = clean-header fields e; spells = refl; counted = refl; once = λ e n. omega (arith, times-nil n) }
 
 taken-next : (most : ℕ) (records : List Record) (grants : List Granted) (fields : Record) (grant : Granted)
-    → AreTaken most records grants
+    → AreRead most records grants
     → grant_spelled fields ≡ Some grant → spelled_cause most grants (Some grant) ≡ None
-    → AreTaken most (records ++ fields ∷ []) (grants ++ grant ∷ [])
+    → AreRead most (records ++ fields ∷ []) (grants ++ grant ∷ [])
 taken-next most [] grants fields grant t is none = absurd (omega (arith, t.clean.some))
 taken-next most (r ∷ records) grants fields grant t is none = record {
   clean = clean-more fields t.clean ((λ i. spelled_cause most (t.spells i) (is i)) ∙ none);
@@ -37,7 +37,7 @@ taken-next most (r ∷ records) grants fields grant t is none = record {
 
 -- the cause of the next record, by the grants before it
 pub at-grants : {most : ℕ} {records : List Record} {grants : List Granted} (fields : Record) (cause : GrantCause)
-    → AreTaken most records grants
+    → AreRead most records grants
     → spelled_cause most grants (grant_spelled fields) ≡ Some cause → record_cause most records fields ≡ Some cause
 at-grants {most = most} fields cause t e = (λ i. spelled_cause most (t.spells i) (grant_spelled fields)) ∙ e
 
@@ -74,14 +74,14 @@ follow-more {most = most} before records grants fields grant follow is none = re
       i (omega (arith, h, length-append grants (grant ∷ [])));
 }
 
-module _ {most : ℕ} {done records : List Record} {before grants : List Granted} (t : AreTaken most done before)
+module _ {most : ℕ} {done records : List Record} {before grants : List Granted} (t : AreRead most done before)
     (follow : Follow most before records grants) where
   as-many : length records ≡ length grants
   as-many = same-length grant_spelled Some records grants follow.spelled
 
   -- with no client and no name twice, records that follow are taken too
   taken-some : (end : ℕ) → end ≤ length grants → AreFreshBefore before grants end
-      → AreTaken most (done ++ take end records) (before ++ take end grants)
+      → AreRead most (done ++ take end records) (before ++ take end grants)
   taken-some zero le fresh = rw (append-nil done, append-nil before) t
   taken-some (suc end) le fresh =
       let g = get_or grants end nobody in
@@ -99,7 +99,7 @@ module _ {most : ℕ} {done records : List Record} {before grants : List Granted
       ) at one
 
   -- all of them
-  pub taken-fresh : AreFresh before grants → AreTaken most (done ++ records) (before ++ grants)
+  pub taken-fresh : AreFresh before grants → AreRead most (done ++ records) (before ++ grants)
   taken-fresh fresh =
       rw (take_all (length grants) records (omega (arith, as-many)), take-length grants) at
       (taken-some (length grants) (omega arith) fresh)
@@ -131,7 +131,7 @@ pub form-first : (most : ℕ) (grants : List Granted) (spelled : Option Granted)
     → spelled_form most grants spelled ≡ Some cause → spelled_cause most grants spelled ≡ Some cause
 form-first most grants spelled cause e = grind (arith, e)
 
-pub taken-gap : (most : ℕ) (all records : List Record) (grants : List Granted) (flaw : Flaw) → AreTaken most records grants → all ≡ records
+pub taken-gap : (most : ℕ) (all records : List Record) (grants : List Granted) (flaw : Flaw) → AreRead most records grants → all ≡ records
     → IsEndFlaw grants flaw → IsFlaw most all flaw
 taken-gap most all records grants (Gap epoch name) t e gap =
     rw e (clean-all t.clean, rw t.spells gap)
@@ -143,7 +143,7 @@ taken-gap most all records grants (DuplicateName at) t e gap = absurd gap
 
 -- what the end gives
 pub taken-end : {V : Type 0} (items : V → List NamedEpoch) (most : ℕ) (all done : List Record) (before : List Granted)
-    (records : List Record) (grants : List Granted) (result : Result V Flaw) → AreTaken most done before → Follow most before records grants
+    (records : List Record) (grants : List Granted) (result : Result V Flaw) → AreRead most done before → Follow most before records grants
     → all ≡ done ++ records
     → MatchResult result (λ _. AreFresh before grants × ((e n : ℕ) → Lacks (before ++ grants) e n → ⊥))
     (λ flaw. IsTwice before grants flaw ⊎ (flaw ≡ Memory) ⊎ (AreFresh before grants × IsEndFlaw (before ++ grants) flaw))

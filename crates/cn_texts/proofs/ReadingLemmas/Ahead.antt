@@ -1,5 +1,5 @@
 -- A reader that has read a stretch ahead of what was gathered.
-use Rattle.cn_texts.proofs.Common.{◌≡◌, subst, ℕ, List, [], ◌∷◌, ◌++◌, Bool, Option, length, ap, arith, inl, inr, true, false, ◌∙◌, Result, Ok, Err, HasRead, Record, records_of, Reader, IsBatchFault, IsGathered, Bounds, AreSpelled, AreTaken, EndsAfter, Gathers, HasHeader, HasSameHeader, HasStretch, ReadsStretch, Arrival, Gathering, Heading, BatchCause}
+use Rattle.cn_texts.proofs.Common.{◌≡◌, subst, ℕ, List, [], ◌∷◌, ◌++◌, Bool, Option, length, ap, arith, inl, inr, true, false, ◌∙◌, Result, Ok, Err, HasRead, Record, records_of, Reader, IsBatchFault, IsGathered, Bounds, AreSpelled, AreRead, EndsAfter, Gathers, HasHeader, HasSameHeader, HasStretch, ReadsStretch, Arrival, Gathering, Heading, BatchCause}
 use Rattle.cn_texts.specs.Reading.Arrival.{spelled_cause}
 use Rattle.cn_texts.specs.declared.reading.batch.arrivals.ArrivalReader.{ArrivalReader}
 use Rattle.cn_texts.specs.declared.reading.batch_fault.BatchFault.{BatchFault}
@@ -29,7 +29,7 @@ pub record HasTaken {R : Type 0} (remaining : R → Option (List ℕ)) (heading 
   pub records : List Record
   pub came : List Arrival
   pub read : HasRead remaining reader text records
-  pub taken : AreTaken heading bounds records came
+  pub taken : AreRead heading bounds records came
   pub gathered : IsGathered g came
 
 module _ {R : Type 0} {remaining : R → Option (List ℕ)} {source : ArrivalReader R} {text : List ℕ} {g : Gathering} where
@@ -58,7 +58,7 @@ module _ {R : Type 0} {remaining : R → Option (List ℕ)} {source : ArrivalRea
         (t.records ++ stretch.records)) e stretch.ends
 
     module _ {h : Gathering} (gathers : Gathers source.bounds arrivals g h (Ok tt)) where
-      both : AreTaken source.heading source.bounds (t.records ++ stretch.records) (t.came ++ arrivals)
+      both : AreRead source.heading source.bounds (t.records ++ stretch.records) (t.came ++ arrivals)
           × IsGathered h (t.came ++ arrivals)
       both = gathers.answer source.heading t.records stretch.records [] t.came t.taken t.gathered stretch.spelled
 
@@ -73,7 +73,7 @@ module _ {R : Type 0} {remaining : R → Option (List ℕ)} {source : ArrivalRea
       }
 
       -- or there are no other records
-      pub at-end : end ≡ Ok false → (came : List Arrival) × AreTaken source.heading source.bounds (records_of text) came
+      pub at-end : end ≡ Ok false → (came : List Arrival) × AreRead source.heading source.bounds (records_of text) came
           × IsGathered h came
       at-end e = (t.came ++ arrivals, rw (ends e) both.0, both.1)
 

@@ -1,15 +1,15 @@
 -- The records of a batch that were taken so far.
-use Rattle.cn_texts.proofs.Common.{◌≡◌, List, ◌∷◌, [], ◌++◌, Some, None, drop, refl, arith, ap, ◌∙◌, length-append, Ok, filter_map-append, Record, result_ok, cons_option, arrival_cause, arrival_in, arrivals_in, IsBatch, AreEpochsOf, cause_of_heading, header_cause, record_cause, heading_of, heading_or, Bounds, AreTaken, Arrival, BatchEpoch, Heading}
+use Rattle.cn_texts.proofs.Common.{◌≡◌, List, ◌∷◌, [], ◌++◌, Some, None, drop, refl, arith, ap, ◌∙◌, length-append, Ok, filter_map-append, Record, result_ok, cons_option, arrival_cause, arrival_in, arrivals_in, IsBatch, AreEpochsOf, cause_of_heading, header_cause, record_cause, heading_of, heading_or, Bounds, AreRead, Arrival, BatchEpoch, Heading}
 use Rattle.cn_texts.specs.Reading.Arrival.{spelled_cause}
 use Rattle.cn_texts.proofs.ReadingLemmas.FirstFaults.{AreClean, clean-all, clean-header, clean-more}
 
 -- such records as lemmas on first faults take them
 pub clean-of : {heading : Heading} {bounds : Bounds} {records : List Record} {arrivals : List Arrival}
-    → AreTaken heading bounds records arrivals → AreClean header_cause (record_cause bounds) records
+    → AreRead heading bounds records arrivals → AreClean header_cause (record_cause bounds) records
 clean-of t = record { some = t.some; clean = t.clean }
 
 pub taken-header : {heading : Heading} {bounds : Bounds} (fields : Record) → heading_of fields ≡ Some heading
-    → AreTaken heading bounds (fields ∷ []) []
+    → AreRead heading bounds (fields ∷ []) []
 taken-header {bounds = bounds} fields e = record {
   headed = ap heading_or e;
   some = omega arith;
@@ -21,7 +21,7 @@ taken-header {bounds = bounds} fields e = record {
 -- what a record spells after those before it, by the arrivals before it
 pub spelled-same : {heading : Heading} {bounds : Bounds} {records : List Record} {arrivals : List Arrival}
     (fields : Record)
-    → AreTaken heading bounds records arrivals
+    → AreRead heading bounds records arrivals
     → record_cause bounds records fields ≡ spelled_cause bounds arrivals (arrival_in heading bounds fields)
 spelled-same {heading = heading} {bounds = bounds} {records = records} fields t =
     ap (λ (h : Heading). spelled_cause bounds (arrivals_in h bounds (drop 1 records)) (arrival_in h bounds fields)) t.headed
@@ -29,9 +29,9 @@ spelled-same {heading = heading} {bounds = bounds} {records = records} fields t 
 
 pub taken-next : {heading : Heading} {bounds : Bounds} (records : List Record) (arrivals : List Arrival)
     (fields : Record)
-    (arrival : Arrival) → AreTaken heading bounds records arrivals
+    (arrival : Arrival) → AreRead heading bounds records arrivals
     → arrival_in heading bounds fields ≡ Ok arrival → arrival_cause bounds arrivals arrival ≡ None
-    → AreTaken heading bounds (records ++ fields ∷ []) (arrivals ++ arrival ∷ [])
+    → AreRead heading bounds (records ++ fields ∷ []) (arrivals ++ arrival ∷ [])
 taken-next [] arrivals fields arrival t is none = absurd (omega (arith, t.some))
 taken-next {heading = heading} {bounds = bounds} (r ∷ records) arrivals fields arrival t is none = record {
   headed = t.headed;
@@ -45,7 +45,7 @@ taken-next {heading = heading} {bounds = bounds} (r ∷ records) arrivals fields
 
 pub taken_all : {heading : Heading} {bounds : Bounds} (records : List Record) {arrivals : List Arrival}
     {epochs : List BatchEpoch}
-    → AreTaken heading bounds records arrivals → AreEpochsOf epochs arrivals → IsBatch bounds records epochs
+    → AreRead heading bounds records arrivals → AreEpochsOf epochs arrivals → IsBatch bounds records epochs
 taken_all {bounds = bounds} records t are =
     record {
       clean = clean-all (clean-of t);

@@ -1,5 +1,5 @@
 -- Arrivals that were read together, and how far they were gathered.
-use Rattle.cn_texts.proofs.Common.{◌≡◌, ◌<◌, ◌≤◌, ◌+◌, ◌⊎◌, ℕ, List, [], ◌∷◌, ◌++◌, Some, None, drop, get_or, length, take, arith, sym, ap, inl, inr, ◌∙◌, append_assoc, append-nil, Ok, take_all, take_more, Record, arrival_cause, arrival_in, IsBatchFault, IsGathered, Bounds, AreSpelled, AreTaken, Arrival, BatchCause, Memory, Gathering, Heading}
+use Rattle.cn_texts.proofs.Common.{◌≡◌, ◌<◌, ◌≤◌, ◌+◌, ◌⊎◌, ℕ, List, [], ◌∷◌, ◌++◌, Some, None, drop, get_or, length, take, arith, sym, ap, inl, inr, ◌∙◌, append_assoc, append-nil, Ok, take_all, take_more, Record, arrival_cause, arrival_in, IsBatchFault, IsGathered, Bounds, AreSpelled, AreRead, Arrival, BatchCause, Memory, Gathering, Heading}
 use Rattle.cn_texts.specs.Reading.Arrival.{spelled_cause}
 use Rattle.cn_texts.proofs.ReadingLemmas.BatchRecords.{clean-of, spelled-same, taken-next}
 use Rattle.cn_texts.proofs.ReadingLemmas.FirstFaults.{stop-other, stop-in}
@@ -8,12 +8,12 @@ use Rattle.cn_texts.proofs.ReadingLemmas.RecordLists.{parted, parted-at, same-le
 -- so many of the arrivals were gathered after those that came before
 pub record GatheredTo (heading : Heading) (bounds : Bounds) (before records : List Record) (came arrivals : List Arrival) (g : Gathering)
     (i : ℕ) : Type 0 where
-  pub taken : AreTaken heading bounds (before ++ take i records) (came ++ take i arrivals)
+  pub taken : AreRead heading bounds (before ++ take i records) (came ++ take i arrivals)
   pub gathered : IsGathered g (came ++ take i arrivals)
 
 module _ {heading : Heading} {bounds : Bounds} {before records : List Record} {came arrivals : List Arrival} where
   -- where nothing is gathered yet
-  pub none-gathered-of : {g : Gathering} → AreTaken heading bounds before came → IsGathered g came
+  pub none-gathered-of : {g : Gathering} → AreRead heading bounds before came → IsGathered g came
       → GatheredTo heading bounds before records came arrivals g 0
   none-gathered-of taken gathered =
       record { taken = rw (append-nil before, append-nil came) taken; gathered = rw (append-nil came) gathered }
@@ -21,7 +21,7 @@ module _ {heading : Heading} {bounds : Bounds} {before records : List Record} {c
   -- all were gathered
   pub all-gathered : {g : Gathering} {i : ℕ} → AreSpelled heading bounds records arrivals → length arrivals ≤ i
       → GatheredTo heading bounds before records came arrivals g i
-      → AreTaken heading bounds (before ++ records) (came ++ arrivals) × IsGathered g (came ++ arrivals)
+      → AreRead heading bounds (before ++ records) (came ++ arrivals) × IsGathered g (came ++ arrivals)
   all-gathered {i = i} spelled all to =
       let size = same-length (arrival_in heading bounds) Ok records arrivals spelled in
       let a : take i arrivals ≡ arrivals = take_all i arrivals all in

@@ -36,7 +36,7 @@ pub record HasSameHeader {R : Type 0} (old new : ArrivalReader R) : Type 0 where
   pub bounds : new.bounds ≡ old.bounds
 
 -- the records so far: a header, and a record for each arrival; none has a cause
-pub record AreTaken (heading : Heading) (bounds : Bounds) (records : List Record)
+pub record AreRead (heading : Heading) (bounds : Bounds) (records : List Record)
     (arrivals : List Arrival) : Type 0 where
   pub headed : heading_in records ≡ heading
   pub some : 0 < length records
@@ -82,9 +82,9 @@ pub record Gathers (bounds : Bounds) (arrivals : List Arrival) (old new : Gather
   pub next : OnOk result (new.next ≡ old.next + length arrivals)
   -- a fault is reported at the record that was being gathered
   pub at : IfErr result (λ fault. fault.at ≡ new.next)
-  pub own : IfErr result (λ fault. fault.cause ≢ Read)
+  pub not_read : IfErr result (λ fault. fault.cause ≢ Read)
   pub answer : (heading : Heading) (before records later : List Record) (came : List Arrival)
-      → AreTaken heading bounds before came → IsGathered old came → AreSpelled heading bounds records arrivals
+      → AreRead heading bounds before came → IsGathered old came → AreSpelled heading bounds records arrivals
       → MatchResult result
-      (λ done. AreTaken heading bounds (before ++ records) (came ++ arrivals) × IsGathered new (came ++ arrivals))
+      (λ done. AreRead heading bounds (before ++ records) (came ++ arrivals) × IsGathered new (came ++ arrivals))
       (IsBatchFault bounds ((before ++ records) ++ later))

@@ -93,7 +93,7 @@ impl Granting {
             × ((n : ℕ) → has_number (numbers_of self.new.names.items) n ≡ has_name n latest)) }
         ensures twice { IfErr result (λ flaw. (earlier latest : List Granted)
             → HoldsGrants self.old earlier latest → IsTwice earlier latest flaw) }
-        ensures own { IfErr result IsRepeatFlaw }
+        ensures repeat { IfErr result IsRepeatFlaw }
     {
         let client = first_repeat(self.clients.as_mut_slice());
         let name = first_repeat(self.names.as_mut_slice());
@@ -129,7 +129,7 @@ impl Granting {
         ensures twice { IfErr result (λ flaw. (earlier latest : List Granted)
             → HoldsGrants self.old earlier latest
             → IsTwice earlier latest flaw ⊎ (flaw ≡ Flaw.Memory)) }
-        ensures own { IfErr result (λ flaw. (at : ℕ) → flaw ≢ Flaw.Read at) }
+        ensures not_read { IfErr result (λ flaw. (at : ℕ) → flaw ≢ Flaw.Read at) }
     {
         self.settle()?;
         if self.gap.is_some() {
@@ -167,7 +167,7 @@ impl Granting {
         ensures twice { IfErr result (λ flaw. (earlier latest : List Granted)
             → HoldsGrants self.old earlier latest
             → IsTwice earlier latest flaw ⊎ (flaw ≡ Flaw.Memory)) }
-        ensures own { IfErr result (λ flaw. (at : ℕ) → flaw ≢ Flaw.Read at) }
+        ensures not_read { IfErr result (λ flaw. (at : ℕ) → flaw ≢ Flaw.Read at) }
     {
         if self.latest == epoch {
             return Ok(());
@@ -193,7 +193,7 @@ impl Granting {
         ensures twice { IfErr result (λ flaw. (earlier latest : List Granted)
             → HoldsGrants self.old earlier latest
             → IsTwice earlier latest flaw ⊎ (flaw ≡ Flaw.Memory)) }
-        ensures own { IfErr result (λ flaw. (at : ℕ) → flaw ≢ Flaw.Read at) }
+        ensures not_read { IfErr result (λ flaw. (at : ℕ) → flaw ≢ Flaw.Read at) }
     {
         self.turn_to(grant.epoch)?;
         let place = self.clients.len() as u32;
@@ -228,7 +228,7 @@ impl Granting {
             → HoldsGrants self earlier latest → Tells self earlier latest
             → map plain_named epochs.items
             ≡ map (named_epoch (earlier ++ latest)) (epoch_numbers (earlier ++ latest))) }
-        ensures own { IfErr result (λ flaw. (at : ℕ) → flaw ≢ Flaw.Read at) }
+        ensures not_read { IfErr result (λ flaw. (at : ℕ) → flaw ≢ Flaw.Read at) }
     {
         let mut granting = self;
         granting.end_latest()?;

@@ -20,5 +20,5 @@ returns g c =
       all = (filled.0.all, filled.1.all);
       full = all-filled _ _ _ _ _ _ _ _ _ _ none none' filled.0 filled.1 (did ∙ joined)
           c.quiet_laws.ensures.closed.names;
-      own = (filled.0.own, filled.1.own);
+      by_name = (filled.0.by_name, filled.1.by_name);
     }

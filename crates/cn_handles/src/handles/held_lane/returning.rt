@@ -3,7 +3,7 @@
 ghost use Rattle.std.specs.Prelude.{◌≡◌, ◌<◌, Some, IfErr, IfOk, length};
 ghost use Rattle.cn_handles.specs.Handles.{lane_held};
 ghost use Rattle.cn_handles.specs.Joining.{AreAllIn, EndsSomewhere, StopsTake, StopsWith, refusal_of, refusal_of_take};
-ghost use Rattle.cn_handles.specs.Looking.{IsTakenOf};
+ghost use Rattle.cn_handles.specs.Looking.{IsFromPlaceOf};
 ghost use Rattle.cn_handles.specs.Refusals.{NotHandedBack, NotJoined, NotJoinedAll, NotTakenBack};
 ghost use Rattle.cn_handles.specs.Returns.{IsBack, IsJoined, Joins, JoinsAll, TakesBack};
 
@@ -11,8 +11,8 @@ use super::HeldLane;
 use crate::handles::held::Held;
 use crate::handles::refusal::Refusal;
 use crate::places::{
-    Full, Handed, LetGo, MOST_JOINS, NoneBack, Place, Search, Taken, another_share, floor_of, keep,
-    with_places,
+    Full, HandBack, LaneFromPlace, LetGo, MOST_JOINS, NoneBack, Place, Search, another_share,
+    floor_of, keep, with_places,
 };
 
 /// Why a lane takes in no other.
@@ -23,7 +23,7 @@ pub(crate) enum JoinStop {
     /// No lane was back.
     NothingBack(NoneBack),
     /// The lane has no room for the grants of one that was back, which is handed back again.
-    Memory(Handed),
+    Memory(HandBack),
 }
 
 impl JoinStop {
@@ -73,7 +73,7 @@ impl HeldLane {
     pub(crate) fn hand_back(
         self,
         boxed: Box<Held>,
-    ) -> Result<Handed, (Refusal, HeldLane, Box<Held>)>
+    ) -> Result<HandBack, (Refusal, HeldLane, Box<Held>)>
         ensures ok { IfOk result (λ handed. IsBack self.home self × EndsSomewhere self handed) }
         ensures err { IfErr result (λ r. r.1 ≡ self) }
         ensures refused { IfErr result (λ r. NotHandedBack (Some self) r.0) }
@@ -95,8 +95,12 @@ impl HeldLane {
     /// # Errors
     /// If it has no room for the other's grants, with the lane as it was, and where the other went, which is handed
     /// back again.
-    fn join(self, other: Taken, other_place: Place) -> Result<HeldLane, (HeldLane, Handed)>
-        requires { IsTakenOf self.home (other, other_place) }
+    fn join(
+        self,
+        other: LaneFromPlace,
+        other_place: Place,
+    ) -> Result<HeldLane, (HeldLane, HandBack)>
+        requires { IsFromPlaceOf self.home (other, other_place) }
         ensures ok { IfOk result (λ r. IsJoined self r other.lane.value) }
         ensures err { IfErr result (λ r. (r.0 ≡ self) × EndsSomewhere other.lane.value r.1) }
         ensures room { IfErr result (λ r. self.room < length other.lane.value.view.grants) }

@@ -9,7 +9,7 @@ ghost use Rattle.cn_texts.specs.Reading.Bounds.{AreBounds};
 ghost use Rattle.cn_texts.specs.declared.reading.bounds.Bounds.{Bounds};
 ghost use Rattle.cn_texts.specs.Reading.Gathered.{HoldsArrivals, IsGathered, StaysServable, adding_cause, ended_after};
 ghost use Rattle.cn_texts.specs.Reading.Records.{Record};
-ghost use Rattle.cn_texts.specs.Reading.Stretch.{AreTaken, Gathers};
+ghost use Rattle.cn_texts.specs.Reading.Stretch.{AreRead, Gathers};
 
 use crate::reading::batch::BatchEpoch;
 use crate::reading::batch::arrival::Arrival;
@@ -107,7 +107,7 @@ impl Gathering {
         ensures stays { OnErr result (self.new.next ≡ self.old.next) }
         ensures err { IfErr result (λ cause.
             (adding_cause bounds self.old client ≡ Some cause) ⊎ (cause ≡ BatchCause.Memory)) }
-        ensures own { IfErr result (λ cause. cause ≢ BatchCause.Read) }
+        ensures not_read { IfErr result (λ cause. cause ≢ BatchCause.Read) }
     {
         match self.standing.insert(client.id) {
             Ok(true) => {}
@@ -138,7 +138,7 @@ impl Gathering {
         ensures stays { OnErr result (self.new.next ≡ self.old.next) }
         ensures err { IfErr result (λ cause. (before : List Arrival) → IsGathered self.old before
             → (arrival_cause bounds before arrival ≡ Some cause) ⊎ (cause ≡ BatchCause.Memory)) }
-        ensures own { IfErr result (λ cause. cause ≢ BatchCause.Read) }
+        ensures not_read { IfErr result (λ cause. cause ≢ BatchCause.Read) }
     {
         if arrival.epoch < self.latest.number {
             return Err(BatchCause::EpochBackwards);
@@ -182,7 +182,7 @@ impl Gathering {
     /// Want of memory, at the record that is not there.
     pub(crate) fn finish(self, alloc: Global) -> Result<Vec<BatchEpoch>, BatchFault>
         ensures answer { (heading : Heading) (bounds : Bounds) (records : List Record) (arrivals : List Arrival)
-            → AreTaken heading bounds records arrivals → IsGathered self arrivals
+            → AreRead heading bounds records arrivals → IsGathered self arrivals
             → MatchResult result (λ epochs. IsBatch bounds records epochs.items) (IsBatchFault bounds records) }
         ensures fits { IfOk result (λ epochs. (bounds : Bounds) → StaysServable bounds self
             → AreServable bounds epochs.items) }

@@ -6,8 +6,8 @@ use Rattle.cn_walk.proofs.walking.walk_all.Goals as goal
 pub loop-rest-preserved : goal.loop-rest-preserved
 loop-rest-preserved g c =
     let was = c.loop-rest.invariant in
-    let came = c.walk_in.ensures in
-    let out = c.walk_out.ensures in
+    let came = c.fill_hand.ensures in
+    let out = c.sweep_out.ensures in
     let cut = c.split_at.ensures in
     let inside : Client → Type 0 = λ k. k.entry < c.args.floor.now.start.network.table.entries in
     record {

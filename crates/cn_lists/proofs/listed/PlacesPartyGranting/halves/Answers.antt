@@ -9,13 +9,13 @@ returns c frame tokens stand =
     let some : 2 ≤ n = c.requires.some in
     let within = stand.within (omega (arith, some)) in (
       record {
-        are = ap (every_second 0) stand.are ∙ placed-even frame.clients p.first p.stride n;
-        within = λ _. within-part p.first p.stride (n - n / 2 - 1) (n - 1) _ (omega arith) within;
+        are = ap (every_second 0) stand.are ∙ placed-even frame.clients p.first p.gap n;
+        within = λ _. within-part p.first p.gap (n - n / 2 - 1) (n - 1) _ (omega arith) within;
         few = stand.few;
       },
       record {
-        are = ap (every_second 1) stand.are ∙ placed-odd frame.clients p.first p.stride n;
-        within = λ _. odd p.first p.stride (n / 2) (n - 1) _ (omega (arith, some)) (omega (arith, some)) within;
+        are = ap (every_second 1) stand.are ∙ placed-odd frame.clients p.first p.gap n;
+        within = λ _. odd p.first p.gap (n / 2) (n - 1) _ (omega (arith, some)) (omega (arith, some)) within;
         few = stand.few;
       },
     )

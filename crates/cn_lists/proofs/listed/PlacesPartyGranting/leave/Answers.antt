@@ -20,18 +20,18 @@ loop-number-preserved c =
     let j : ℕ = c.loop-number.number in
     let was = c.loop-number.invariant in
     let by : ℕ → Grant = λ name. record {
-      client = slice_index clients (g.first + g.stride * j);
+      client = slice_index clients (g.first + g.gap * j);
       exit = c.args.exit;
       visit = c.args.first + j;
       name = name - c.args.base;
     } in
     let less : j ≤ c.args.count - 1 = omega (arith, c.loop-number-test.true) in
-    let inside : g.first + g.stride * j < length clients =
-    omega (arith, c.requires.are.1.within (omega (arith, c.loop-number-test.true)), mul-le-mul_left g.stride less) in
+    let inside : g.first + g.gap * j < length clients =
+    omega (arith, c.requires.are.1.within (omega (arith, c.loop-number-test.true)), mul-le-mul_left g.gap less) in
     let (same, named, long) = c.write.ensures.kept in
     let (same2, named2, long2) = was.kept in
     record {
-      noted = λ before now gone is. noted-next now gone c.args.width c.args.base c.args.exit c.args.first g.first g.stride j
+      noted = λ before now gone is. noted-next now gone c.args.width c.args.base c.args.exit c.args.first g.first g.gap j
           c.push_reserved.new.self.items c.write.new.self.names.now (by c.name_of.result) (was.noted before now gone is)
           (ap by c.name_of.ensures) c.push_reserved.ensures.items inside long c.write.ensures.here c.write.ensures.others;
       kept = (same ∙ same2, named ∙ named2, long ∙ long2);
@@ -47,5 +47,5 @@ returns-clause-noted c tokens before now gone many stand noted =
     subst (λ (z : List (ℕ × ℕ) × List ℕ). AreNoted before
     (now ++ grants_out c.args.width c.args.base c.args.exit c.args.first z.0) (gone_too gone z.0) z.1 c.loop-number.grants.items
     c.loop-number.list.names.now)
-    (λ i. ((ap (placed c.args.notes.now.list.now.clients.now g.first g.stride) all ∙ sym stand.are) i, (sym same i).now))
+    (λ i. ((ap (placed c.args.notes.now.list.now.clients.now g.first g.gap) all ∙ sym stand.are) i, (sym same i).now))
     (c.loop-number.invariant.noted before now gone noted)

@@ -23,20 +23,20 @@ none-noted clients names before all same = record {
 
 pub returns-clause-granted : goal.returns-clause-granted
 returns-clause-granted c =
-    from (c.walk_all.ensures.noted _ _ (none-noted c.args.self.now.clients.now c.args.self.now.names.now c.args.post.now.view.grants
+    from (c.walk_party.ensures.noted _ _ (none-noted c.args.self.now.clients.now c.args.self.now.names.now c.args.post.now.view.grants
     c.args.grants.now.items c.requires.granted)).items (search rules)
 
 pub returns-clause-walked : goal.returns-clause-walked
 returns-clause-walked c =
     let v : View = c.args.post.now.view in
-    let w : View = c.walk_all.new.post.view in
+    let w : View = c.walk_party.new.post.view in
     let clients : List ℕ = c.args.self.now.clients.now in
-    let kept = c.walk_all.ensures.kept in
-    let noted = c.walk_all.ensures.noted v.grants (λ _. 0)
+    let kept = c.walk_party.ensures.kept in
+    let noted = c.walk_party.ensures.noted v.grants (λ _. 0)
     (none-noted clients c.args.self.now.names.now v.grants c.args.grants.now.items c.requires.granted) in
     let of_list = subst (λ (xs : List ℕ). AreNoted v.grants w.grants (gone_too (λ _. 0) (placed clients 0 1 (length clients))) xs
-    c.walk_all.new.notes.grants.now.items c.walk_all.new.notes.list.now.names.now) (ap (λ (f : ListFrame). f.clients) kept) noted in (
-      c.walk_all.ensures.walked,
+    c.walk_party.new.notes.grants.now.items c.walk_party.new.notes.list.now.names.now) (ap (λ (f : ListFrame). f.clients) kept) noted in (
+      c.walk_party.ensures.walked,
       from (ap (λ (f : ListFrame). f.names) kept) (search rules),
       λ size.
           let (more, grew, named) = by-place of_list (ap (λ (f : ListFrame). f.size) kept ∙ size) in

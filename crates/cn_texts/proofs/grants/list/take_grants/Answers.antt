@@ -31,7 +31,7 @@ pub returns-in_err-add-in-Ok-Some-clause-told : goal.returns-in_err-add-in-Ok-So
 returns-in_err-add-in-Ok-Some-clause-told g c =
     let reported = err_from_is_err_and c.from_residual.result c.from_residual.ensures.1 in
     rw (reported.1, reported.2) (end-told g.R.ReadTelling.failed c.next_grant.new.records _ c.in-Ok-Some.ensures.plain.going
-    c.in_err-add-in-Ok-Some.ensures.own)
+    c.in_err-add-in-Ok-Some.ensures.not_read)
 
 pub returns-in-Ok-None-clause-answer : goal.returns-in-Ok-None-clause-answer
 returns-in-Ok-None-clause-answer g c = λ text read.
@@ -45,7 +45,8 @@ returns-in-Ok-None-clause-answer g c = λ text read.
 pub returns-in-Ok-None-clause-told : goal.returns-in-Ok-None-clause-told
 returns-in-Ok-None-clause-told g c =
     IfErr-weaker c.finish.result _ _
-    (λ flaw own. end-told g.R.ReadTelling.failed c.next_grant.new.records flaw c.in-Ok-None.ensures.plain.going own) c.finish.ensures.own
+    (λ flaw own. end-told g.R.ReadTelling.failed c.next_grant.new.records flaw c.in-Ok-None.ensures.plain.going own)
+    c.finish.ensures.not_read
 
 pub returns-in_err-settle-in-Err-next_grant-clause-answer : goal.returns-in_err-settle-in-Err-next_grant-clause-answer
 returns-in_err-settle-in-Err-next_grant-clause-answer g c = λ text read.
@@ -61,7 +62,7 @@ returns-in_err-settle-in-Err-next_grant-clause-told g c =
     let residual = c.from_residual-in_err-settle-in-Err-next_grant in
     let reported = err_from_is_err_and residual.result residual.ensures.1 in
     rw (reported.1, reported.2) (repeat-told g.R.ReadTelling.failed c.next_grant.new.records _
-    c.in_err-settle-in-Err-next_grant.ensures.own)
+    c.in_err-settle-in-Err-next_grant.ensures.repeat)
 
 pub returns-in-Err-next_grant-clause-answer : goal.returns-in-Err-next_grant-clause-answer
 returns-in-Err-next_grant-clause-answer g c = λ text read.

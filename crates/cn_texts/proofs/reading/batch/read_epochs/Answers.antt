@@ -31,7 +31,7 @@ returns-in_err-gather-clause-answer g c =
 pub returns-in_err-gather-clause-told : goal.returns-in_err-gather-clause-told
 returns-in_err-gather-clause-told g c =
     let reported = err_from_is_err_and c.from_residual.result c.from_residual.ensures.1 in
-    rw (reported.1, reported.2) (λ is. absurd (c.in_err-gather.ensures.own is))
+    rw (reported.1, reported.2) (λ is. absurd (c.in_err-gather.ensures.not_read is))
 
 pub returns-in-Err-clause-answer : goal.returns-in-Err-clause-answer
 returns-in-Err-clause-answer g c = λ text header.

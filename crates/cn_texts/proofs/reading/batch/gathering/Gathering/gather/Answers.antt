@@ -14,7 +14,7 @@ returns-in-Err c = record {
   keeps = tt;
   next = tt;
   at = sym c.in-Err.ensures.stays;
-  own = c.in-Err.ensures.own;
+  not_read = c.in-Err.ensures.not_read;
   answer = λ heading before records later came taken gathered spelled.
       let at = c.loop-arrival.arrival-index in
       let to = c.loop-arrival.invariant.taken heading before records came taken gathered spelled in
@@ -38,7 +38,7 @@ returns c = record {
   keeps = c.loop-arrival.invariant.keeps;
   next = omega (arith, c.loop-arrival.invariant.next, c.loop-arrival-test.false);
   at = tt;
-  own = tt;
+  not_read = tt;
   answer = λ heading before records later came taken gathered spelled.
       all-gathered spelled c.loop-arrival-test.false
       (c.loop-arrival.invariant.taken heading before records came taken gathered spelled);

@@ -1,7 +1,7 @@
 use Rattle.cn_floor.proofs.Common.{◌≡◌, ℕ, ◌<◌, ◌++◌, [], length, replicate, rules, sym, ap, ◌∙◌, subst, arith, Exit, FloorValue, IsAlone, IsAtomicStep, IsLetBy, Start, View, end_of, last_on, length-map-range_with_len, on, Enters}
 use Rattle.cn_floor.proofs.InLane.Alone.{there-alone}
 use Rattle.cn_floor.proofs.InLane.Named.{alone-entered, gone-alone}
-use Rattle.cn_floor.proofs.floor.Floor.walk_by.Goals as goal
+use Rattle.cn_floor.proofs.floor.Floor.walk_with_stride.Goals as goal
 
 pub pass_on-wire-requires-clause-alone : goal.pass_on-wire-requires-clause-alone
 pass_on-wire-requires-clause-alone g c =

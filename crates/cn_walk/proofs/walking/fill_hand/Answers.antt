@@ -1,6 +1,6 @@
 use Rattle.cn_walk.proofs.Common.{rules, ◌<◌, ◌∙◌, ap, arith, IsWellFormed, FloorValue}
 use Rattle.cn_walk.proofs.Walks.{IsHeld, comes, comes-next, stays}
-use Rattle.cn_walk.proofs.walking.walk_in.Goals as goal
+use Rattle.cn_walk.proofs.walking.fill_hand.Goals as goal
 
 pub loop-client-init : goal.loop-client-init
 loop-client-init g c = record { walks = stays c.args.lane.now; spare = omega (arith, c.requires.spare) }

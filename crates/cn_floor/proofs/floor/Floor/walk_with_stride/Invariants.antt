@@ -1,4 +1,4 @@
-use Rattle.cn_floor.proofs.floor.Floor.walk_by.Given as goal
+use Rattle.cn_floor.proofs.floor.Floor.walk_with_stride.Given as goal
 
 abbrev pub ghosts-enter : goal.ghosts-enter
 ghosts-enter g a = record { coming = record { start = a.self.now.start; token = a._token; client = a._client; entry = a.entry } }

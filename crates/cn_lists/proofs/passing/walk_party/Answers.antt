@@ -3,7 +3,7 @@ use Rattle.cn_lists.proofs.Groups.{placed-many}
 use Rattle.cn_lists.proofs.CameIn.{all-clients, came-once, nobody-stands}
 use Rattle.cn_lists.proofs.Counted.{together-steps}
 use Rattle.cn_lists.proofs.InTurn.{walk-together}
-use Rattle.cn_lists.proofs.passing.walk_all.Goals as goal
+use Rattle.cn_lists.proofs.passing.walk_party.Goals as goal
 
 pub pass_all-requires-clause-wire : goal.pass_all-requires-clause-wire
 pass_all-requires-clause-wire g c =

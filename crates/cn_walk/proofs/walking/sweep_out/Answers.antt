@@ -1,7 +1,7 @@
 use Rattle.cn_walk.proofs.Common.{rules, ◌≡◌, ℕ, [], ap, arith, length, IsWellFormed, tokens_in, FloorValue, lowest-inside, nobody-there}
 use Rattle.cn_walk.proofs.SweptWalks.{clear-below, sweeps}
 use Rattle.cn_walk.proofs.Walks.{none_by, walks-on}
-use Rattle.cn_walk.proofs.walking.walk_out.Goals as goal
+use Rattle.cn_walk.proofs.walking.sweep_out.Goals as goal
 
 pub loop-wire-smaller : goal.loop-wire-smaller
 loop-wire-smaller g c =

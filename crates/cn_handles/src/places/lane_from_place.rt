@@ -10,14 +10,14 @@ use crate::handles::held::Held;
 use crate::handles::held_lane::HeldLane;
 use crate::places::kept::{Kept, unkeep};
 use crate::places::place::{Place, PlaceBox};
-use crate::places::{FloorShare, FloorWithPlaces, Handed};
+use crate::places::{FloorShare, FloorWithPlaces, HandBack};
 use cn_floor::{Floor, JoinFault, Lane};
 use std::mem::replace;
 use std::snapshot::Snapshot;
 
 /// A lane that was taken out of a place, in its box there. Only a join lets it go, or its place has it again, or a
 /// handle. It is moved as its box is.
-pub(crate) struct Taken {
+pub(crate) struct LaneFromPlace {
     lane: Snapshot<Lane>,
     boxed: Box<Kept>,
     ghost there: { back_held boxed.value ≡ Some lane.value },
@@ -49,11 +49,11 @@ fn lane_of(boxed: &Box<Kept>) -> &Lane
     }
 }
 
-impl Taken {
+impl LaneFromPlace {
     ghost use Rattle.cn_handles.specs.Joining.{EndsSomewhere};
 
     /// What stood at a place of this floor.
-    pub(crate) fn of(returned: PlaceBox, floor: &Floor<'static>) -> Taken
+    pub(crate) fn of(returned: PlaceBox, floor: &Floor<'static>) -> LaneFromPlace
         requires { IsSomeAnd (back_held returned.boxed.value) (IsBack floor.now) }
         ensures { IsBack floor.now result.lane.value }
     {
@@ -61,23 +61,23 @@ impl Taken {
         let _ = floor;
         let boxed = returned.into_boxed();
         let lane = Snapshot::of(lane_of(&boxed));
-        Taken { lane, boxed }
+        LaneFromPlace { lane, boxed }
     }
 
     /// A lane, in this box.
-    fn with(lane: Lane, mut boxed: Box<Kept>) -> Taken
+    fn with(lane: Lane, mut boxed: Box<Kept>) -> LaneFromPlace
         ensures { result.lane.value ≡ lane }
     {
         let seen = Snapshot::of(&lane);
         *boxed = Held::Back(lane);
-        Taken { lane: seen, boxed }
+        LaneFromPlace { lane: seen, boxed }
     }
 
     /// The lane, out of its box.
     fn into_lane(self) -> (Lane, Box<Kept>)
         ensures { result.0 ≡ self.lane.value }
     {
-        let Taken {
+        let LaneFromPlace {
             lane: _lane,
             mut boxed,
         } = self;
@@ -91,7 +91,11 @@ impl Taken {
     ///
     /// # Errors
     /// If the lane has no room for its grants.
-    pub(crate) fn join(self, floor: &Floor<'static>, lane: Lane) -> Result<Lane, (Lane, Taken)>
+    pub(crate) fn join(
+        self,
+        floor: &Floor<'static>,
+        lane: Lane,
+    ) -> Result<Lane, (Lane, LaneFromPlace)>
         requires own { lane.home ≡ floor.now }
         requires back { IsBack floor.now self.lane.value }
         ensures ok { IfOk result (λ joined. IsJoined lane joined self.lane.value) }
@@ -101,7 +105,7 @@ impl Taken {
         let (other, boxed) = self.into_lane();
         match floor.join(lane, other) {
             Ok(lane) => Ok(lane),
-            Err((JoinFault::Memory, lane, other)) => Err((lane, Taken::with(other, boxed))),
+            Err((JoinFault::Memory, lane, other)) => Err((lane, LaneFromPlace::with(other, boxed))),
             Err((JoinFault::StillWalking, _, _)) => unreachable!(),
         }
     }
@@ -142,7 +146,7 @@ impl Taken {
     }
 
     /// Puts it back into its place.
-    pub(crate) fn put_back(self, floor: &FloorWithPlaces, place: Place) -> Handed
+    pub(crate) fn put_back(self, floor: &FloorWithPlaces, place: Place) -> HandBack
         requires lane { IsBack floor.now self.lane.value }
         requires place { IsPlaceOf floor.now place }
         ensures { EndsSomewhere self.lane.value result }

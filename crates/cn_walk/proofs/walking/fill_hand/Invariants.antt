@@ -1,5 +1,5 @@
 use Rattle.cn_walk.proofs.Common.{◌+◌, ◌≤◌, length, take, Walks}
-use Rattle.cn_walk.proofs.walking.walk_in.Given as goal
+use Rattle.cn_walk.proofs.walking.fill_hand.Given as goal
 
 abbrev pub invariant-loop-client : goal.invariant-loop-client
 invariant-loop-client g l = record {

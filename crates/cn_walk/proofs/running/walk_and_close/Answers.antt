@@ -1,7 +1,7 @@
 use Rattle.cn_walk.proofs.Common.{rules, ℕ, arith, length, whole}
 use Rattle.cn_walk.proofs.Parts.{one-worker, whole-ready}
 use Rattle.cn_walk.proofs.Runs.{all-first, all-in-order, all-theirs, new-nothing, new-sole, none-missing, ran}
-use Rattle.cn_walk.proofs.running.walk_floor.Goals as goal
+use Rattle.cn_walk.proofs.running.walk_and_close.Goals as goal
 
 pub make_lanes-requires-clause-nothing : goal.make_lanes-requires-clause-nothing
 make_lanes-requires-clause-nothing g c = new-nothing _ _ _ _ c.requires.lane c.requires.idle

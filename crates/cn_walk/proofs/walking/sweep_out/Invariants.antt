@@ -1,6 +1,6 @@
 use Rattle.cn_walk.proofs.Common.{◌≡◌, ℕ, ◌<◌, ◌≤◌, [], length, on, Walks}
 use Rattle.cn_walk.proofs.Walks.{IsHeld, steps_left}
-use Rattle.cn_walk.proofs.walking.walk_out.Given as goal
+use Rattle.cn_walk.proofs.walking.sweep_out.Given as goal
 
 -- some of those inside went on or out, and nobody stands below the last wire
 abbrev pub invariant-loop-wire : goal.invariant-loop-wire
