@@ -7,4 +7,5 @@ pub mod Performing
 pub mod Replay
 pub mod Running
 pub mod Serve
+pub mod Served
 pub mod Show

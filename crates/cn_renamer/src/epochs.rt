@@ -1,8 +1,9 @@
 //! The epochs of a batch: run one after another, each by many workers, or beside one another, each by one.
 
-ghost use Rattle.std.specs.Prelude.{◌≡◌, ◌+◌, ◌<◌, ◌≤◌, [], ◌∷◌, ℕ, IfOk, IfSome, false, length, take, true};
+ghost use Rattle.std.specs.Prelude.{◌≡◌, ◌+◌, ◌++◌, ◌<◌, ◌≤◌, [], ◌∷◌, ℕ, IfOk, IfSome, List, Ok, false, length, take, true};
 ghost use Rattle.cn_spec.specs.declared.limits.TheConstants.{MOST_CARRIED, MOST_NAMED};
 ghost use Rattle.cn_floor.specs.Carried.{client_count};
+ghost use Rattle.cn_floor.specs.Ends.{QuietValue};
 ghost use Rattle.cn_texts.specs.Reading.Batch.{MayCome, clients_of_epochs};
 ghost use Rattle.cn_texts.specs.Reading.Bounds.{bounds_of};
 ghost use Rattle.cn_renamer.specs.Floors.{HaveWalked, new_runner, runner_after};
@@ -126,6 +127,38 @@ fn cut(epochs: &[BatchEpoch], crew: Crew, clients: usize) -> (usize, usize)
     (at, before)
 }
 
+/// Runs epochs that carry nothing one after another, by one worker of a crew, and writes who has which name. The
+/// receipts are of their floors.
+fn run_by_one<R: Threads + Wait + Sync>(
+    rt: &R,
+    alloc: Global,
+    network: &Counting,
+    epochs: &[BatchEpoch],
+    crew: Crew,
+    holders: &mut [u64],
+) -> Result<Receipts, AllocError>
+    requires epochs { MayRunAll network.now.table.entries epochs.now (length holders.old) }
+    requires crew { IsCrew crew }
+    ensures { IfOk result (λ floors.
+        HaveWalked (of_one_worker crew) (new_runner false network.now) epochs.now floors holders.new) }
+{
+    let runner = Runner::new(alloc, network, false)?;
+    let one_worker = Crew { workers: 1, ..crew };
+    run_in_turn(rt, alloc, runner, epochs, one_worker, &OpenGate, holders)
+}
+
+/// The receipts of two parts of a run, if both have run.
+fn receipts_of_both(
+    one: Result<Receipts, AllocError>,
+    other: Result<Receipts, AllocError>,
+) -> Result<Receipts, AllocError>
+    ensures { IfOk result (λ floors. (first : List QuietValue) × (second : List QuietValue)
+        × (one ≡ Ok first) × (other ≡ Ok second) × (floors ≡ first ++ second)) }
+{
+    let (floors, others) = (one?, other?);
+    Ok(floors.append(others))
+}
+
 /// Runs epochs that carry nothing, each by one worker, and writes who has which name. If several workers of the crew
 /// pay, two parts of the epochs run beside each other, each by a part of these workers, and so on in each; else they
 /// run one after another. If no thread can be had the parts are run so too. The receipts are of their floors.
@@ -145,9 +178,7 @@ fn run_beside<R: Threads + Wait + Sync>(
     let clients = holders.len();
     let workers = workers_that_pay(crew.workers, epochs.len(), clients);
     if workers < 2 {
-        let runner = Runner::new(alloc, network, false)?;
-        let one_worker = Crew { workers: 1, ..crew };
-        return run_in_turn(rt, alloc, runner, epochs, one_worker, &OpenGate, holders);
+        return run_by_one(rt, alloc, network, epochs, crew, holders);
     }
     let crew = Crew { workers, ..crew };
     let (at, reached) = cut(epochs, crew, clients);
@@ -167,8 +198,7 @@ fn run_beside<R: Threads + Wait + Sync>(
                 second.entry.now floors back.exit.now) }
         { run_beside(rt, alloc, network, second, others, back) },
     );
-    let (floors, others) = (one?, other?);
-    Ok(floors.append(others))
+    receipts_of_both(one, other)
 }
 
 /// Memory of which one worker runs any of these epochs, with 2 MB more than their grants want.
@@ -214,11 +244,41 @@ fn run_by_several<G: Gate + Sync, R: Threads + Wait + Sync>(
     }
 }
 
+/// Runs the epochs of a batch on a network, as the options say, and writes who has which name. If several workers are
+/// refused memory, one runs all epochs once the threads have ended and what they held is let go. The receipts are of
+/// their floors.
+fn serve_epochs<G: Gate + Sync, R: Threads + Wait + Sync>(
+    rt: &R,
+    alloc: Global,
+    network: &Counting,
+    options: &Options,
+    epochs: &[BatchEpoch],
+    gate: Option<&G>,
+    holders: &mut [u64],
+) -> Result<Receipts, AllocError>
+    requires epochs { MayRunAll network.now.table.entries epochs.now (length holders.old) }
+    ensures { IfOk result (λ floors. HaveWalked (crew_of gate.entry options.now)
+        (new_runner options.now.carry network.now) epochs.now floors holders.new) }
+{
+    if let Some(receipts) = run_by_several(rt, alloc, network, options, epochs, gate, holders) {
+        return Ok(receipts);
+    }
+    let runner = Runner::new(alloc, network, options.carries())?;
+    let one = Crew {
+        first: 0,
+        workers: 1,
+        hand: options.hand(),
+    };
+    match gate {
+        Some(gate) => run_in_turn(rt, alloc, runner, epochs, one, gate, holders),
+        None => run_in_turn(rt, alloc, runner, epochs, one, &OpenGate, holders),
+    }
+}
+
 /// Runs the epochs of a batch on a network, as the options say: who has which name, epoch after epoch, each by rising
 /// name; and the receipts of the floors on which they were named. At a gate the epochs run one after another, each by
 /// all workers that the options ask for; without one each is run by one worker, and as many run beside one another as
-/// pay. If several workers are refused memory, one runs all epochs once the threads have ended and what they held is
-/// let go.
+/// pay.
 pub(crate) fn run_epochs<G: Gate + Sync, R: Threads + Wait + Sync>(
     rt: &R,
     alloc: Global,
@@ -233,26 +293,6 @@ pub(crate) fn run_epochs<G: Gate + Sync, R: Threads + Wait + Sync>(
     ensures many { IfOk result (λ r. clients_of_epochs epochs.now ≡ length r.0.items) }
 {
     let mut holders = vec![in alloc; 0; clients_in(epochs)]?;
-    if let Some(receipts) = run_by_several(
-        rt,
-        alloc,
-        network,
-        options,
-        epochs,
-        gate,
-        &mut holders,
-    ) {
-        return Ok((holders, receipts));
-    }
-    let runner = Runner::new(alloc, network, options.carries())?;
-    let one = Crew {
-        first: 0,
-        workers: 1,
-        hand: options.hand(),
-    };
-    let receipts = match gate {
-        Some(gate) => run_in_turn(rt, alloc, runner, epochs, one, gate, &mut holders)?,
-        None => run_in_turn(rt, alloc, runner, epochs, one, &OpenGate, &mut holders)?,
-    };
+    let receipts = serve_epochs(rt, alloc, network, options, epochs, gate, &mut holders)?;
     Ok((holders, receipts))
 }

@@ -1,9 +1,10 @@
 //! A batch, served by many workers.
 
-ghost use Rattle.std.specs.Prelude.{◌≡◌, ◌≤◌, IfErr, IfOk, IfSome, List, length};
+ghost use Rattle.std.specs.Prelude.{◌≡◌, ◌≤◌, ℕ, IfErr, IfOk, IfSome, List, Option, length};
 ghost use Rattle.cn_spec.specs.declared.limits.TheConstants.{MOST_NAMED};
 ghost use Rattle.cn_ledger.specs.declared.record.EpochRecord.{EpochRecord};
-ghost use Rattle.cn_texts.specs.Reading.Batch.{AnswersBatch, AreServable, clients_of_epochs};
+ghost use Rattle.cn_nets.specs.Net.{IsNetworkOf};
+ghost use Rattle.cn_texts.specs.Reading.Batch.{AnswersBatch, AreServable, IsBatch, clients_of_epochs};
 ghost use Rattle.cn_texts.specs.Reading.Bounds.{bounds_of};
 ghost use Rattle.cn_texts.specs.Reading.Records.{records_of};
 ghost use Rattle.cn_texts.specs.Writing.Pieces.{nothing_put};
@@ -11,8 +12,9 @@ ghost use Rattle.cn_texts.specs.Writing.EpochRecords.{AreRecordsOf};
 ghost use Rattle.cn_texts.specs.Writing.Written.{First, HasWritten, Whole, written_by};
 ghost use Rattle.cn_renamer.specs.Floors.{IsRunOnFloorsOfKnown};
 ghost use Rattle.cn_renamer.specs.Headline.{IsRunInOrderOfKnown, IsRunOfKnown, text_in};
-ghost use Rattle.cn_renamer.specs.Running.{walkers};
+ghost use Rattle.cn_renamer.specs.Running.{crew_of, walkers};
 ghost use Rattle.cn_renamer.specs.Serve.{IsServeFault, until_serve};
+ghost use Rattle.cn_renamer.specs.Served.{HasServed};
 
 use crate::epochs::run_epochs;
 use crate::serve_fault::ServeFault;
@@ -75,6 +77,33 @@ fn write_epochs<W: Write>(
         Form::Report => write_report(writer, pieces, network, options.carries(), epochs, holders),
         Form::Grants => write_grants(writer, pieces, epochs, holders),
     }
+}
+
+/// Runs the epochs of a batch that was read, and writes what came of them in the options' form. The receipts are of
+/// their floors.
+///
+/// # Errors
+/// `Memory` if any growth was refused; `Write` if a write or the flush at the end failed.
+fn run_and_write<W: Write, G: Gate + Sync, R: Threads + Wait + Sync>(
+    rt: &R,
+    alloc: Global,
+    writer: &mut W,
+    network: &Counting,
+    options: &Options,
+    epochs: &[BatchEpoch],
+    gate: Option<&G>,
+) -> Result<Receipts, ServeFault>
+    requires built { IsNetworkOf options.now.net network.now }
+    requires fits { AreServable (bounds_of options.now.large network.now.table.entries) epochs.now }
+    requires few { clients_of_epochs epochs.now ≤ MOST_NAMED }
+    ensures { (known : Option (List ℕ)) → IfSome known (λ text.
+        IsBatch (bounds_of options.now.large network.now.table.entries) (records_of text) epochs.now)
+        → HasServed (crew_of gate.entry options.now) options.now known W.contents writer.old writer.new result }
+{
+    let (holders, receipts) = run_epochs(rt, alloc, network, options, epochs, gate)?;
+    let pieces = Pieces::new(alloc)?;
+    write_epochs(writer, pieces, network, options, epochs, &holders)?;
+    Ok(receipts)
 }
 
 /// Reads a batch, runs its epochs, and writes what came of them in the options' form: the report, which has the
@@ -167,8 +196,5 @@ pub fn serve_with_receipts<I: Read + Drop, W: Write, G: Gate + Sync, R: Threads 
 {
     let network = options.net().build(alloc)?;
     let batch = read_by_options(alloc, reader, &network, options, state)?;
-    let (holders, receipts) = run_epochs(rt, alloc, &network, options, &batch.epochs, gate)?;
-    let pieces = Pieces::new(alloc)?;
-    write_epochs(writer, pieces, &network, options, &batch.epochs, &holders)?;
-    Ok(receipts)
+    run_and_write(rt, alloc, writer, &network, options, &batch.epochs, gate)
 }

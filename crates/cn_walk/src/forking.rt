@@ -3,8 +3,9 @@
 ghost use Rattle.std.specs.Prelude.{◌≡◌, ℕ, ◌+◌, ◌-◌, ◌*◌, ◌/◌, ◌<◌, ◌≤◌, All, IfSome, length};
 ghost use Rattle.cn_spec.specs.declared.limits.TheConstants.{MOST_NAMED};
 ghost use Rattle.cn_walk.specs.Parts.{AreOf, AreReady, HasNothing, IsOne, IsPair, MayWalk, first_position, whole};
-ghost use Rattle.cn_walk.specs.Parts.{SpareAtMost};
+ghost use Rattle.cn_walk.specs.Parts.{SpareAtMost, together};
 ghost use Rattle.cn_walk.specs.Walks.{GrantsInOrder, IsSole, WalksAll};
+ghost use Rattle.cn_yard.specs.Lists.{tokens_in};
 ghost use denote.Param.Send.{IsSync};
 
 use crate::crew::Crew;
@@ -101,6 +102,19 @@ fn pair(alloc: Global, at: u32, left: Lanes, right: Lanes) -> Option<Lanes>
     Some(Lanes::Fork(at, left, right))
 }
 
+/// Takes the second of a floor's lanes, in which nobody is inside, into the first, which has room for its grants.
+fn take_in<'a>(floor: &Floor<'a>, lane: Lane, other: Lane) -> Lane
+    requires own { (lane.home ≡ floor.now) × (other.home ≡ floor.now) }
+    requires out { tokens_in other.yard.lists ≡ 0 }
+    requires room { length other.view.grants ≤ lane.room }
+    ensures { result ≡ together lane other }
+{
+    match floor.join(lane, other) {
+        Ok(lane) => lane,
+        Err(_) => unreachable!(),
+    }
+}
+
 /// Walks the clients through the lanes, the first part of a fork in a thread of its own beside the second, and joins
 /// the lanes. If no thread can be had the parts are walked one after the other. A single lane is walked here.
 pub(crate) fn walk_lanes<F: SharedFloor + Sync, G: Gate + Sync, R: Threads + Wait + Sync>(
@@ -141,10 +155,7 @@ pub(crate) fn walk_lanes<F: SharedFloor + Sync, G: Gate + Sync, R: Threads + Wai
                     ensures { WalksAll (whole right) result second.entry.now }
                 { walk_lanes(rt, floor, right, second, crew, gate) },
             );
-            let Ok(lane) = floor.floor().join(lane, other) else {
-                unreachable!()
-            };
-            lane
+            take_in(floor.floor(), lane, other)
         }
     }
 }

@@ -11,6 +11,14 @@ module _ {lane seen : LaneValue} {floor : FloorValue} (held : lane ≡ seen) (ow
   pub home-network : {network : Network} → network ≡ floor.start.network → lane.home.start.network ≡ network
   home-network is = ap (λ (s : Start). s.network) (home-start refl) ∙ sym is
 
+  -- and a wire for each of the network
+  pub home-wires : {network : Network} → length seen.yard.lists ≡ length seen.home.start.network.table.ends
+      → network ≡ floor.start.network → length lane.yard.lists ≡ length network.table.ends
+  home-wires wires is =
+      ap (λ (l : LaneValue). length l.yard.lists) held ∙ wires
+      ∙ ap (λ (h : FloorValue). length h.start.network.table.ends) own
+      ∙ ap (λ (x : Network). length x.table.ends) (sym is)
+
   pub view-start : {f : FloorValue} → seen.view.start ≡ seen.home.start → f ≡ floor → lane.view.start ≡ f.start
   view-start began is =
       ap (λ (l : LaneValue). l.view.start) held ∙ began ∙ ap (λ (h : FloorValue). h.start) (own ∙ sym is)

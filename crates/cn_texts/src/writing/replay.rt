@@ -61,9 +61,28 @@ fn send_record<W: Write>(pieces: &mut Pieces, writer: &mut W, width: u32, epoch:
     send_holders(pieces, writer, &epoch.holders);
 }
 
+/// Sends the lines of a turn and its answer: what its epoch gave out, or that it is refused. An answer of another
+/// command, or want of memory, has none.
+#[tactic(auto, unfolding(crate::specs::Writing::Replay::answer_line))]
+fn send_turn<W: Write>(pieces: &mut Pieces, writer: &mut W, width: u32, answer: &Answer)
+    requires width { width ≤ MOST_ENDS }
+    requires showable { IsShowable width answer.now }
+    ensures { Puts W.contents writer.old writer.new pieces.old pieces.new (answer_line width Command.Turn answer.now) }
+{
+    match answer {
+        Answer::Turned(epoch) => send_record(pieces, writer, width, epoch),
+        Answer::TurnRefused(fault) => {
+            if let TurnFault::NotQuiet(inside) = *fault {
+                send_numbered(pieces, writer, "refused turn NotQuiet ", inside, "\n");
+            }
+        }
+        Answer::Replied(_) => {}
+    }
+}
+
 /// Sends the lines of a command and its answer, unless a write failed. An answer that does not fit its command, or is
 /// want of memory, has none.
-#[tactic(auto, unfolding(crate::specs::Writing::Replay::answer_line, crate::specs::Writing::Replay::not_quiet_line))]
+#[tactic(auto, unfolding(crate::specs::Writing::Replay::answer_line))]
 fn send_answer<W: Write>(
     pieces: &mut Pieces,
     writer: &mut W,
@@ -79,18 +98,18 @@ fn send_answer<W: Write>(
     if pieces.has_failed() {
         return;
     }
-    match (command, answer) {
-        (Command::Enter { client, entry }, Answer::Replied(reply)) => {
-            send_enter(pieces, writer, client, entry, *reply);
+    match command {
+        Command::Enter { client, entry } => {
+            if let Answer::Replied(reply) = answer {
+                send_enter(pieces, writer, client, entry, *reply);
+            }
         }
-        (Command::Step { client }, Answer::Replied(reply)) => {
-            send_step(pieces, writer, client, *reply);
+        Command::Step { client } => {
+            if let Answer::Replied(reply) = answer {
+                send_step(pieces, writer, client, *reply);
+            }
         }
-        (Command::Turn, Answer::Turned(epoch)) => send_record(pieces, writer, width, epoch),
-        (Command::Turn, Answer::TurnRefused(TurnFault::NotQuiet(inside))) => {
-            send_numbered(pieces, writer, "refused turn NotQuiet ", *inside, "\n");
-        }
-        _ => {}
+        Command::Turn => send_turn(pieces, writer, width, answer),
     }
 }
 

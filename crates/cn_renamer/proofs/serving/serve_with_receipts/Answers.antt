@@ -1,12 +1,6 @@
-use Rattle.cn_renamer.proofs.Common.{rules, err_from_is_err_and, First, Whole, IsNetworkOf, crew_of}
+use Rattle.cn_renamer.proofs.Common.{rules, err_from_is_err_and, IsNetworkOf}
 use Rattle.cn_renamer.proofs.Refused.{none-written, refused-by}
-use Rattle.cn_renamer.proofs.Running.{may-run, run-written}
 use Rattle.cn_renamer.proofs.serving.serve_with_receipts.Goals as goal
-
-pub run_epochs-requires-clause-may : goal.run_epochs-requires-clause-may
-run_epochs-requires-clause-may g c κs within =
-    rw c.deref.ensures.value (may-run c.args.options.now.large c.in_ok-network.network.table.entries c.in_ok-batch.batch.epochs.items
-    c.in_ok-batch.ensures.fits c.in_ok-batch.ensures.few)
 
 pub returns-in_err-batch : goal.returns-in_err-batch
 returns-in_err-batch g c =
@@ -22,26 +16,7 @@ returns-in_err-batch g c =
           c.in_err-batch.ensures.answer;
     })
 
-pub returns-in_err-write_epochs : goal.returns-in_err-write_epochs
-returns-in_err-write_epochs g c =
-    let fault = err_from_is_err_and c.from_residual-in_err-write_epochs.result c.from_residual-in_err-write_epochs.ensures.1 in
-    let options = c.args.options.now in
-    let (run, ordered, floors) = run-written g.W.Write.contents c.args.writer.now c.write_epochs.new.writer
-    options.net options.form options.carry options.large c.in_ok-network.network (search rules)
-    (g.I.Read.remaining c.args.reader) c.in_ok-batch.batch.epochs.items c.in_ok-batch.ensures.answer
-    c.in_ok-batch.ensures.fits (crew_of c.args.gate options) c.in_ok-holders.receipts
-    c.in_ok-holders.holders.items (rw c.deref.ensures.value at c.in_ok-holders.ensures.walked)
-    (First c.in_err-write_epochs.field-0.0.written)
-    (rw (c.deref-2.ensures.value, c.deref-3.ensures.value) at c.in_err-write_epochs.ensures) in
-    rw (fault.1, fault.2) (record { headline = run; in_order = ordered; floors = tt; refused = tt })
-
 pub returns : goal.returns
 returns g c =
-    let options = c.args.options.now in
-    let (run, ordered, floors) = run-written g.W.Write.contents c.args.writer.now c.write_epochs.new.writer
-    options.net options.form options.carry options.large c.in_ok-network.network (search rules)
-    (g.I.Read.remaining c.args.reader) c.in_ok-batch.batch.epochs.items c.in_ok-batch.ensures.answer
-    c.in_ok-batch.ensures.fits (crew_of c.args.gate options) c.in_ok-holders.receipts
-    c.in_ok-holders.holders.items (rw c.deref.ensures.value at c.in_ok-holders.ensures.walked) Whole
-    (rw (c.deref-2.ensures.value, c.deref-3.ensures.value) at c.in_ok-write_epochs.ensures) in
-    record { headline = run; in_order = ordered; floors = floors; refused = tt }
+    let ran = c.run_and_write.ensures (g.I.Read.remaining c.args.reader) (rw (← c.deref.ensures.value) at c.in_ok-batch.ensures.answer) in
+    record { headline = ran.headline; in_order = ran.in_order; floors = ran.floors; refused = ran.refused }

@@ -192,15 +192,7 @@ impl Gathering {
     {
         let mut gathering = self;
         match gathering.open_epoch(alloc, 0) {
-            Ok(()) => {
-                let Gathering {
-                    ended,
-                    latest: _latest,
-                    standing: _standing,
-                    next: _next,
-                } = gathering;
-                Ok(ended)
-            }
+            Ok(()) => Ok(gathering.ended),
             Err(_) => Err(BatchFault {
                 at: gathering.next,
                 cause: BatchCause::Memory,

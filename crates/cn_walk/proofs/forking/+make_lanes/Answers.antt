@@ -1,7 +1,22 @@
-use Rattle.cn_walk.proofs.Common.{rules, ◌≡◌, ◌+◌, ◌-◌, ◌≤◌, arith, ℕ, max, min, refl, ap, LaneValue, first_position}
+use Rattle.cn_walk.proofs.Common.{rules, ◌≡◌, ◌+◌, ◌-◌, arith, length, ℕ, refl, ap, LaneValue, first_position}
 use Rattle.std.proofs.lemmas.Option.{IfSome_then}
-use Rattle.cn_walk.proofs.Parts.{rises, left-nothing, none_after, none_before, pair-ready, reserved-nothing, right-nothing}
+use Rattle.cn_walk.proofs.Parts.{rises, left-nothing, none_after, none_before, pair-ready, reserved-nothing}
+use Rattle.cn_walk.proofs.Parts.{right-nothing, whole-ready}
 use Rattle.cn_walk.proofs.forking.+make_lanes.Goals as goal
+
+pub overflow_sub-own : goal.overflow_sub-own
+overflow_sub-own t c =
+    let high = rises c.args.clients c.args.crew.workers c.args.from c.args.to (omega arith) (omega arith) in omega arith
+
+pub overflow_sub-at : goal.overflow_sub-at
+overflow_sub-at t c =
+    let low = rises c.args.clients c.args.crew.workers c.args.from c.cut-middle.result (omega arith) (omega arith) in
+    omega arith
+
+pub overflow_sub-own-2 : goal.overflow_sub-own-2
+overflow_sub-own-2 t c =
+    let high = rises c.args.clients c.args.crew.workers c.cut-middle.result c.args.to (omega arith) (omega arith) in
+    omega arith
 
 pub make_lanes-requires-2 : goal.make_lanes-requires-2
 make_lanes-requires-2 t c =
@@ -30,10 +45,8 @@ returns-clause-ready t c =
     let first = c.in-Ok-split.ensures.first in
     let room = ap (λ (l : LaneValue). l.room) first in
     let spare = ap (λ (l : LaneValue). l.yard.spare) first in
-    let own : c.first_position.result - c.first_position-first.result ≤ c.reserve_apart.new.self.room = search rules in
-    let hand : min (c.first_position.result - c.first_position-first.result) c.args.crew.hand ≤
-    c.reserve_apart.new.self.yard.spare =
-    search rules in
+    let grants = ap (λ (l : LaneValue). l.room) c.in-Ok.ensures.ok in
+    let records = ap (λ (l : LaneValue). l.yard.spare) c.in-Ok.ensures.ok in
     let pair = rw (c.first_position-2.ensures.value, c.first_position-first.ensures.value) at c.pair.ensures in
     IfSome_then c.pair.result pair
     (λ lanes is. pair-ready c.args.floor.now (at c.args.to - at c.args.from) (at middle - at c.args.from)
@@ -51,9 +64,24 @@ returns-clause-workers t c =
     (λ lanes is. is.of c.args.clients c.args.crew.workers c.args.from middle c.args.to (omega arith) (omega arith)
     refl (omega arith) (omega arith) c.in_ok-left.ensures.workers c.in_ok-right.ensures.workers)
 
+pub returns-clause-room : goal.returns-clause-room
+returns-clause-room t c =
+    let reserved = ap (λ (l : LaneValue). l.room) c.in-Ok.ensures.ok in
+    let first = ap (λ (l : LaneValue). l.room) c.in-Ok-split.ensures.first in
+    let none = (whole-ready _ _ _ _ c.in_ok-right.ensures.ready).nothing.grants in
+    IfSome_then c.pair.result c.pair.ensures (λ lanes is.
+    omega (arith, ap (λ (l : LaneValue). l.room) is.whole_is, ap length none, c.in_ok-left.ensures.room))
+
+pub returns-clause-spare : goal.returns-clause-spare
+returns-clause-spare t c =
+    let reserved = ap (λ (l : LaneValue). l.yard.spare) c.in-Ok.ensures.ok in
+    let first = ap (λ (l : LaneValue). l.yard.spare) c.in-Ok-split.ensures.first in
+    IfSome_then c.pair.result c.pair.ensures (λ lanes is.
+    omega (arith, ap (λ (l : LaneValue). l.yard.spare) is.whole_is, c.in_ok-left.ensures.spare))
+
 pub returns-clause-few : goal.returns-clause-few
 returns-clause-few t c =
-    let reserved : c.reserve_apart.new.self.yard.spare ≤ max c.args.crew.hand c.args.lane.yard.spare = search rules in
+    let reserved = ap (λ (l : LaneValue). l.yard.spare) c.in-Ok.ensures.ok in
     let first = ap (λ (l : LaneValue). l.yard.spare) c.in-Ok-split.ensures.first in
     let second = ap (λ (l : LaneValue). l.yard.spare) c.in-Ok-split.ensures.second in
     IfSome_then c.pair.result c.pair.ensures (λ lanes is n old some. is.spared n
@@ -96,3 +124,34 @@ returns-then-at-own-clause-workers t c =
     let high = rises c.args.clients c.args.crew.workers middle c.args.to (omega arith) (omega arith) in
     IfSome_then c.make_lanes-then-at-own.result c.make_lanes-then-at-own.ensures.workers (λ lanes are.
     none_after c.args.clients c.args.crew.workers c.args.from middle c.args.to lanes (omega arith) (omega arith) are)
+
+pub returns-then-at-eq0-clause-few : goal.returns-then-at-eq0-clause-few
+returns-then-at-eq0-clause-few t c =
+    let reserved = ap (λ (l : LaneValue). l.yard.spare) c.in-Ok.ensures.ok in
+    IfSome_then c.make_lanes.result c.make_lanes.ensures.few (λ lanes few n old some. few n (omega arith) some)
+
+pub returns-then-at-own-clause-few : goal.returns-then-at-own-clause-few
+returns-then-at-own-clause-few t c =
+    let reserved = ap (λ (l : LaneValue). l.yard.spare) c.in-Ok.ensures.ok in
+    IfSome_then c.make_lanes-then-at-own.result c.make_lanes-then-at-own.ensures.few
+    (λ lanes few n old some. few n (omega arith) some)
+
+pub returns-then-at-own-clause-spare : goal.returns-then-at-own-clause-spare
+returns-then-at-own-clause-spare t c =
+    let reserved = ap (λ (l : LaneValue). l.yard.spare) c.in-Ok.ensures.ok in
+    IfSome_then c.make_lanes-then-at-own.result c.make_lanes-then-at-own.ensures.spare (λ lanes more. omega arith)
+
+pub returns-then-at-own-clause-room : goal.returns-then-at-own-clause-room
+returns-then-at-own-clause-room t c =
+    let reserved = ap (λ (l : LaneValue). l.room) c.in-Ok.ensures.ok in
+    IfSome_then c.make_lanes-then-at-own.result c.make_lanes-then-at-own.ensures.room (λ lanes more. omega arith)
+
+pub returns-then-at-eq0-clause-spare : goal.returns-then-at-eq0-clause-spare
+returns-then-at-eq0-clause-spare t c =
+    let reserved = ap (λ (l : LaneValue). l.yard.spare) c.in-Ok.ensures.ok in
+    IfSome_then c.make_lanes.result c.make_lanes.ensures.spare (λ lanes more. omega arith)
+
+pub returns-then-at-eq0-clause-room : goal.returns-then-at-eq0-clause-room
+returns-then-at-eq0-clause-room t c =
+    let reserved = ap (λ (l : LaneValue). l.room) c.in-Ok.ensures.ok in
+    IfSome_then c.make_lanes.result c.make_lanes.ensures.room (λ lanes more. omega arith)

@@ -2,24 +2,53 @@ use Rattle.cn_floor.proofs.Common.{◌≡◌, ℕ, ◌+◌, ◌*◌, ◌%◌, �
 use Rattle.cn_floor.specs.declared.view.Sweep.TheVariants.{On, Out}
 use Rattle.cn_floor.proofs.InLane.Swept.{cleared, lane-dealt, lane-left, outs-are, sweeps-on}
 use Rattle.cn_floor.proofs.InLane.Yards.{some-inside}
-use Rattle.cn_floor.proofs.InLane.Lanes.{home-network, home-start, view-network, view-start}
+use Rattle.cn_floor.proofs.InLane.Lanes.{home-network, home-wires, home-start, view-network, view-start}
 use Rattle.cn_floor.proofs.InLane.Named.{name-small}
 use Rattle.cn_floor.proofs.floor.Floor.sweep.Goals as goal
 
-pub deal-requires-clause-distinct : goal.deal-requires-clause-distinct
-deal-requires-clause-distinct c =
+pub count-requires : goal.count-requires
+count-requires c = some-inside c.lane.inside.yard.lists c.args.wire (rw (← c.lane.view_is) at c.requires.some)
+
+pub sweep-first-requires : goal.sweep-first-requires
+sweep-first-requires c =
+    let start : Start = c.self.inside.counters.start in
+    let inside = some-inside c.lane.inside.yard.lists c.args.wire (rw (← c.lane.view_is) at c.requires.some) in
+    let same : start.network ≡ c.args.self.now.start.network =
+    ap (λ (h : FloorValue). h.start.network) c.self.view_is in
+    let network : c.network-network.result.now ≡ start.network = c.network-network.ensures.value ∙ sym same in
+    let ends = home-wires c.lane.view_is c.requires.own c.lane_laws.ensures.wires same in
+    record {
+      own = ap (λ (l : LaneValue). l.home) c.lane.view_is ∙ c.requires.own ∙ sym c.self.view_is;
+      sweeping = refl;
+      once = λ token. subst (λ (ls : Lists). times_in ls token ≤ 1)
+          (ap (λ (l : LaneValue). l.yard.lists) (sym c.lane.view_is) ∙ c.lane.invariant.tokens)
+          (c.lane_laws.ensures.once token);
+      tokens = ap (λ (ls : Lists). length (on ls c.args.wire)) (sym c.lane.invariant.tokens)
+          ∙ sym (c.from-tokens.ensures ∙ c.count.ensures);
+      wire = omega (arith, inside, ends);
+      ends = ap (λ (x : Network). end_of x.table c.args.wire) (sym network) ∙ c.end-end.ensures.at;
+      stands = subst (λ (x : Network). Stands x.table c.end-end.result) network c.end-end.ensures.there;
+    }
+
+pub deal-requires : goal.deal-requires
+deal-requires c =
     let lists = c.lane.inside.yard.lists in
     let network : Network = c.network-network.result.now in
+    let formed = c.end-end.ensures.network.formed in
     let inside : c.args.wire < length lists = some-inside lists c.args.wire (rw (← c.lane.view_is) at c.requires.some) in
-    let ends : length lists ≡ length network.table.ends =
-    ap (λ (l : LaneValue). length l.yard.lists) c.lane.view_is ∙ c.lane_laws.ensures.wires
-    ∙ ap (λ (h : FloorValue). length h.start.network.table.ends) c.requires.own
-    ∙ ap (λ (x : Network). length x.table.ends) (sym c.network-network.ensures.value) in
+    let ends = home-wires c.lane.view_is c.requires.own c.lane_laws.ensures.wires c.network-network.ensures.value in
     let forward : c.args.wire < network.table.entries + 2 * c.in-Balancer.balancer =
     subst (LeadsOn network.table c.args.wire) (c.end-end.ensures.at ∙ c.in-Balancer.is)
-    (c.end-end.ensures.network.formed.forward c.args.wire (omega (arith, inside, ends))) in
+    (formed.forward c.args.wire (omega (arith, inside, ends))) in
     let before : c.args.wire < c.entries.result + 2 * c.in-Balancer.balancer = omega (arith, forward, c.entries.ensures.value) in
-    (λ e. omega (arith, e, before), λ e. omega (arith, e, before), λ e. omega (arith, e))
+    let stands = subst (Stands network.table) c.in-Balancer.is c.end-end.ensures.there in
+    let out : c.entries.result + 2 * c.in-Balancer.balancer + 1 < length lists =
+    omega (arith, stands, ends, formed.wires, c.entries.ensures.value) in
+    record {
+      wires = (inside, omega (arith, out), out);
+      distinct = (λ e. omega (arith, e, before), λ e. omega (arith, e, before), λ e. omega (arith, e));
+      output = omega (arith, c.output_of.ensures);
+    }
 
 pub leave_all-requires-clause-wire : goal.leave_all-requires-clause-wire
 leave_all-requires-clause-wire c = some-inside c.lane.inside.yard.lists c.args.wire (rw (← c.lane.view_is) at c.requires.some)
@@ -153,8 +182,3 @@ returns-in-Exit c =
           (subst (λ (s : Start). AreLetBy s v c.sweep-first.new.post.view c.args.wire c.end-end.result n) (sym begun)
           c.sweep-first.ensures.went.1)),
     )
-
-pub sweep-first-requires-clause-once : goal.sweep-first-requires-clause-once
-sweep-first-requires-clause-once c token =
-    subst (λ (ls : Lists). times_in ls token ≤ 1) (ap (λ (l : LaneValue). l.yard.lists) (sym c.lane.view_is) ∙ c.lane.invariant.tokens)
-    (c.lane_laws.ensures.once token)

@@ -1,7 +1,13 @@
-use Rattle.cn_texts.proofs.Common.{arith, refl, IfOk-weaker, err_from_is_err_and}
+use Rattle.cn_texts.proofs.Common.{List, arith, refl, Arrival, IfOk-weaker, err_from_is_err_and, records_of}
 use Rattle.cn_texts.proofs.ReadingLemmas.Ahead.{after-header, at-end, goes-on, next-fault, same-header, stretch-fault}
 use Rattle.cn_texts.proofs.ReadingLemmas.Told.{read-stops}
 use Rattle.cn_texts.proofs.reading.batch.read_epochs.Goals as goal
+
+-- what follows from all arrivals of a text
+with-all : {Read Gathered : List Arrival → Type 0} {Answer : Type 0}
+    → (came : List Arrival) × Read came × Gathered came
+    → ((arrivals : List Arrival) → Read arrivals → Gathered arrivals → Answer) → Answer
+with-all (came, read, gathered) answer = answer came read gathered
 
 pub loop-stretch-init : goal.loop-stretch-init
 loop-stretch-init g c =
@@ -47,10 +53,9 @@ pub returns-then-not-others-clause-answer : goal.returns-then-not-others-clause-
 returns-then-not-others-clause-answer g c = λ text header.
     let was = c.loop-stretch.invariant in
     let gathers = rw (c.deref.ensures.value, c.bounds-bounds.ensures) at c.in_ok-gather.ensures in
-    let (came, taken, gathered) =
-    at-end was.same (was.taken text header) c.read_stretch-end.ensures.reads gathers
-    (rw c.if-not-others.true at c.in-Ok.is) in
-    c.finish.ensures.answer c.args.source.now.heading c.args.source.now.bounds _ _ taken gathered
+    with-all (at-end was.same (was.taken text header) c.read_stretch-end.ensures.reads gathers
+    (rw c.if-not-others.true at c.in-Ok.is))
+    (c.finish.ensures.answer c.args.source.now.heading c.args.source.now.bounds (records_of text))
 
 pub returns-then-not-others-clause-fits : goal.returns-then-not-others-clause-fits
 returns-then-not-others-clause-fits g c =

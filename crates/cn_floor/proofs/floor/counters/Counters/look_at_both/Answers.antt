@@ -52,13 +52,26 @@ cut-first start entered p v l one is =
     })
     ∙ ap (λ (n : ℕ). record v { seen = entered; steps = n }) steps
 
-pub cut_in_two-other-requires-clause-pair : goal.cut_in_two-other-requires-clause-pair
-cut_in_two-other-requires-clause-pair g c =
+pub cut_in_two-other-requires : goal.cut_in_two-other-requires
+cut_in_two-other-requires g c =
     let start : Start = c.args.self.now.start in
     let entered : ℕ = c.load_all-entered.result in
-    c.load_all-entered.ensures.view ∙ ap (λ me. after_entered start entered me.0) c.join_seat.ensures.2
-    ∙ (λ i. after_entered start entered (both_of ((c.look.ensures.looks.0 ∙ sym c.requires.pair.0) i)
-    ((c.look-2.ensures.looks.0 ∙ sym c.requires.pair.1) i)))
+    let first = c.look.ensures.looks.0 ∙ sym c.requires.pair.0 in
+    let second = c.look-2.ensures.looks.0 ∙ sym c.requires.pair.1 in
+    record {
+      own = c.load_all-entered.ensures.seat.0 ∙ c.join_seat.ensures.0 ∙ c.look.ensures.seat.0 ∙ c.requires.own.0;
+      slots = c.load_all-entered.ensures.seat.1;
+      pair = c.load_all-entered.ensures.view ∙ ap (λ me. after_entered start entered me.0) c.join_seat.ensures.2
+          ∙ (λ i. after_entered start entered (both_of (first i) (second i)));
+      wires = ap (λ (v : View). length v.tokens) c.requires.pair.1 ∙ c.requires.wires
+          ∙ sym (ap (λ (v : View). length v.tokens) c.requires.pair.0);
+      idle = (
+        ap (λ (v : View). v.loads) c.requires.pair.0 ∙ c.requires.slots.1,
+        ap (λ (v : View). v.loads) c.requires.pair.1 ∙ c.requires.slots.3,
+      );
+      first = subst (StoodInState start) first c.look.ensures.looks.1;
+      second = subst (StoodInState start) second c.look-2.ensures.looks.1;
+    }
 
 pub returns-clause-first : goal.returns-clause-first
 returns-clause-first g c =

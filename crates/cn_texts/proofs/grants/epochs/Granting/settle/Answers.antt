@@ -1,8 +1,18 @@
-use Rattle.cn_texts.proofs.Common.{◌∙◌, ◌≡◌, ℕ, List, None, Some, ap, arith, length, map, with_items_is, length_permutation, has_number, numbers_of, Occurrence, Granted}
+use Rattle.cn_texts.proofs.Common.{◌∙◌, ◌≡◌, ℕ, List, None, Some, ap, arith, length, map, refl, with_items_is, length_permutation, has_number, numbers_of, Occurrence, Granted}
 use Rattle.cn_texts.proofs.GrantLemmas.CheckedGrants.{all-fresh, client-twice, name-twice}
 use Rattle.cn_texts.proofs.Each.{any-map}
 use Rattle.cn_texts.proofs.GrantLemmas.Repeats.{numbers-occurrences, same-numbers}
+use Rattle.std.proofs.Common.{Global, Vec}
+use Rattle.std.specs.List.Sorted.{IsPermutation}
+use Rattle.std.specs.Vec.{with_items}
 use Rattle.cn_texts.proofs.grants.epochs.Granting.settle.Goals as goal
+
+-- in another order there are as many
+same-many : (v : Vec Occurrence Global) (old new : List Occurrence) → old ≡ v.items → length old ≡ v.len
+    → IsPermutation old new → length (with_items v new).items ≡ length v.items
+same-many v old new was long order =
+    let same : length new ≡ length old = length_permutation old new order in
+    ap length (with_items_is v new (same ∙ long)) ∙ same ∙ ap length was
 
 pub returns-in-None-None-clause-fresh : goal.returns-in-None-None-clause-fresh
 returns-in-None-None-clause-fresh c = λ earlier latest held.
@@ -49,3 +59,43 @@ returns-in-Some-Some-2-clause-twice c = λ earlier latest held.
     (rw c.in-Some-Some.is-0 at (c.first_repeat-client.ensures.first _ (c.as_mut_slice.ensures.value ∙ held.clients)))
     (rw c.in-Some-Some.is-1 at (c.first_repeat-name.ensures.first _ (c.as_mut_slice-2.ensures.value ∙ held.names)))
     (omega (arith, c.if-name-client.false)))
+
+pub returns-in-None-None-clause-same : goal.returns-in-None-None-clause-same
+returns-in-None-None-clause-same c =
+    let clients = c.as_mut_slice.ensures in
+    let names = c.as_mut_slice-2.ensures in
+    let some = same-many c.args.self.now.clients _ _ clients.value clients.len c.first_repeat-client.ensures.order in
+    let others = same-many c.args.self.now.names _ _ names.value names.len c.first_repeat-name.ensures.order in
+    (refl, refl, refl, refl, some, others)
+
+pub returns-in-None-Some-clause-same : goal.returns-in-None-Some-clause-same
+returns-in-None-Some-clause-same c =
+    let clients = c.as_mut_slice.ensures in
+    let names = c.as_mut_slice-2.ensures in
+    let some = same-many c.args.self.now.clients _ _ clients.value clients.len c.first_repeat-client.ensures.order in
+    let others = same-many c.args.self.now.names _ _ names.value names.len c.first_repeat-name.ensures.order in
+    (refl, refl, refl, refl, some, others)
+
+pub returns-in-Some-None-clause-same : goal.returns-in-Some-None-clause-same
+returns-in-Some-None-clause-same c =
+    let clients = c.as_mut_slice.ensures in
+    let names = c.as_mut_slice-2.ensures in
+    let some = same-many c.args.self.now.clients _ _ clients.value clients.len c.first_repeat-client.ensures.order in
+    let others = same-many c.args.self.now.names _ _ names.value names.len c.first_repeat-name.ensures.order in
+    (refl, refl, refl, refl, some, others)
+
+pub returns-in-Some-Some-clause-same : goal.returns-in-Some-Some-clause-same
+returns-in-Some-Some-clause-same c =
+    let clients = c.as_mut_slice.ensures in
+    let names = c.as_mut_slice-2.ensures in
+    let some = same-many c.args.self.now.clients _ _ clients.value clients.len c.first_repeat-client.ensures.order in
+    let others = same-many c.args.self.now.names _ _ names.value names.len c.first_repeat-name.ensures.order in
+    (refl, refl, refl, refl, some, others)
+
+pub returns-in-Some-Some-2-clause-same : goal.returns-in-Some-Some-2-clause-same
+returns-in-Some-Some-2-clause-same c =
+    let clients = c.as_mut_slice.ensures in
+    let names = c.as_mut_slice-2.ensures in
+    let some = same-many c.args.self.now.clients _ _ clients.value clients.len c.first_repeat-client.ensures.order in
+    let others = same-many c.args.self.now.names _ _ names.value names.len c.first_repeat-name.ensures.order in
+    (refl, refl, refl, refl, some, others)
