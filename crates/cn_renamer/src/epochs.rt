@@ -129,7 +129,7 @@ fn cut(epochs: &[BatchEpoch], crew: Crew, clients: usize) -> (usize, usize)
 
 /// Runs epochs that carry nothing one after another, by one worker of a crew, and writes who has which name. The
 /// receipts are of their floors.
-fn run_by_one<R: Threads + Wait + Sync>(
+fn serve_by_one<R: Threads + Wait + Sync>(
     rt: &R,
     alloc: Global,
     network: &Counting,
@@ -178,7 +178,7 @@ fn run_beside<R: Threads + Wait + Sync>(
     let clients = holders.len();
     let workers = workers_that_pay(crew.workers, epochs.len(), clients);
     if workers < 2 {
-        return run_by_one(rt, alloc, network, epochs, crew, holders);
+        return serve_by_one(rt, alloc, network, epochs, crew, holders);
     }
     let crew = Crew { workers, ..crew };
     let (at, reached) = cut(epochs, crew, clients);

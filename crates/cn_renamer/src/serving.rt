@@ -84,7 +84,7 @@ fn write_epochs<W: Write>(
 ///
 /// # Errors
 /// `Memory` if any growth was refused; `Write` if a write or the flush at the end failed.
-fn run_and_write<W: Write, G: Gate + Sync, R: Threads + Wait + Sync>(
+fn serve_batch<W: Write, G: Gate + Sync, R: Threads + Wait + Sync>(
     rt: &R,
     alloc: Global,
     writer: &mut W,
@@ -196,5 +196,5 @@ pub fn serve_with_receipts<I: Read + Drop, W: Write, G: Gate + Sync, R: Threads 
 {
     let network = options.net().build(alloc)?;
     let batch = read_by_options(alloc, reader, &network, options, state)?;
-    run_and_write(rt, alloc, writer, &network, options, &batch.epochs, gate)
+    serve_batch(rt, alloc, writer, &network, options, &batch.epochs, gate)
 }

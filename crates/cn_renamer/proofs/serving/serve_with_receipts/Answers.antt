@@ -18,5 +18,5 @@ returns-in_err-batch g c =
 
 pub returns : goal.returns
 returns g c =
-    let ran = c.run_and_write.ensures (g.I.Read.remaining c.args.reader) (rw (← c.deref.ensures.value) at c.in_ok-batch.ensures.answer) in
+    let ran = c.serve_batch.ensures (g.I.Read.remaining c.args.reader) (rw (← c.deref.ensures.value) at c.in_ok-batch.ensures.answer) in
     record { headline = ran.headline; in_order = ran.in_order; floors = ran.floors; refused = ran.refused }

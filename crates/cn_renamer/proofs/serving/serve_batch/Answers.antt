@@ -1,6 +1,6 @@
 use Rattle.cn_renamer.proofs.Common.{First, Whole, crew_of, err_from_is_err_and}
 use Rattle.cn_renamer.proofs.Running.{may-run, run-written}
-use Rattle.cn_renamer.proofs.serving.run_and_write.Goals as goal
+use Rattle.cn_renamer.proofs.serving.serve_batch.Goals as goal
 
 pub run_epochs-requires-clause-may : goal.run_epochs-requires-clause-may
 run_epochs-requires-clause-may g c κs within =
